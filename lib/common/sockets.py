@@ -1,5 +1,6 @@
 """The socket of a server. The library for programs (clients/python/actorimage.py) is one file, and opens its own."""
 
+import contextlib
 import os
 import socket
 import stat
@@ -7,11 +8,13 @@ import struct
 
 # A name for an end that begins so says that it is the operator's, for whom a server keeps one place more. It is no file.
 OPERATOR = b"\0actorimage.operator."
+# Those of bin/supervise begin so: it leaves by itself where all others have left a server that is to end.
+SUPERVISOR = OPERATOR + b"supervise."
 
 
-def operator():
+def operator(prefix=OPERATOR):
     """A name for an end of the operator."""
-    return OPERATOR + os.urandom(8).hex().encode()
+    return prefix + os.urandom(8).hex().encode()
 
 
 def connected(path, seconds=None, name=b""):
@@ -41,3 +44,17 @@ def listens(path):
 def process_of(end):
     """The number of the process at the other end; 0 where that is not known."""
     return struct.unpack("3i", end.getsockopt(socket.SOL_SOCKET, socket.SO_PEERCRED, struct.calcsize("3i")))[0]
+
+
+def sockets_of(process):
+    """How many sockets a process has beside its standard input and output; None where it cannot be looked into. A server has one for each
+    session, and one more while it listens."""
+    folder, count = f"/proc/{process}/fd", 0
+    try:
+        numbers = [it for it in os.listdir(folder) if int(it) > 2]
+    except OSError:
+        return None
+    for number in numbers:
+        with contextlib.suppress(OSError):
+            count += os.readlink(f"{folder}/{number}").startswith("socket:")
+    return count

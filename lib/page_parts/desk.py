@@ -10,16 +10,34 @@ import actorimage
 LONGEST_SESSION, PATIENCE = 60, 30
 LOOKS = ("classes", "methods", "source", "versions", "implementors", "senders", "edits", "actors", "inspect", "status", "outcome", "wait",
     "stats", "fault", "faults")
+EDITS = "define", "method", "replace", "remove", "reparent"
+# What is said where a session broke, and what the page does then.
+WENT_AWAY, SILENT = "the server went away", f"the server has not answered for {PATIENCE} seconds"
+NO_SERVER = "no server listens", "what replies is no server"
+GOES_ON, PERHAPS = "the page goes on by itself once a server is there", "whether this was done is not known"
 ONLY_LOOKS = "this page was started with --look, and changes nothing"
 OF_FILE = "this is an image file, read alone: nothing of it runs, and nothing is changed"
 
 
 class Lost(Exception):
-    """There is no image now. `is_full` says that a server is there which takes no more sessions."""
+    """There is no image now. `is_full` says that a server is there which takes no more sessions, and `is_broken` that the session was there
+    when something was asked."""
 
-    def __init__(self, sentence, is_full=False):
+    def __init__(self, sentence, is_full=False, is_broken=False):
         super().__init__(sentence)
-        self.sentence, self.is_full = sentence, is_full
+        self.sentence, self.is_full, self.is_broken = sentence, is_full, is_broken
+
+    def said(self, is_change):
+        """The sentence, with what the page does now; of a change also that it may have been done."""
+        parts = [self.sentence, *[PERHAPS] * (is_change and self.is_broken), *[GOES_ON] * (not self.is_full)]
+        return "; ".join(parts)
+
+
+def why(error):
+    """What is said where no session began, in the words of the client; and where one broke, of which that says what it read."""
+    if str(error).startswith(NO_SERVER):
+        return str(error)
+    return SILENT if isinstance(error.__context__, TimeoutError) else WENT_AWAY
 
 
 class OnlyLooks(Exception):
@@ -31,10 +49,10 @@ class OnlyLooks(Exception):
 
 class Line:
     """One session, which is begun when something is asked. Threads may share it. `begun` counts the sessions that were not begun just
-    since the one before was old: behind such a one the image may be another."""
+    since the one before was old: behind such a one the image may be another. `ours` has the versions of the edits that were made here."""
 
-    def __init__(self, path, looks_only=False):
-        self.path, self.looks_only = path, looks_only
+    def __init__(self, path, looks_only=False, ours=None):
+        self.path, self.looks_only, self.ours = path, looks_only, set() if ours is None else ours
         self.lock, self.image, self.since, self.begun = threading.RLock(), None, 0.0, 0
 
     def ask(self, command):
@@ -52,10 +70,12 @@ class Line:
         with self.lock:
             self.be_there()
             try:
-                return list(self.image.ask_all(commands, window))
+                told = list(self.image.ask_all(commands, window))
             except actorimage.Ended as ended:
                 self.rest()
-                raise Lost(str(ended)) from None
+                raise Lost(why(ended), is_broken=True) from None
+        self.ours.update(it["version"] for command, it in zip(commands, told) if command["cmd"] in EDITS and isinstance(it, dict))
+        return told
 
     def be_there(self):
         """Begins a session where there is none, or where the present one is old."""
@@ -68,7 +88,7 @@ class Line:
         except actorimage.TooMany:
             raise Lost("the server has 64 sessions, as many as it may; this page goes on once one of them ends", True) from None
         except actorimage.ActorImageError as error:
-            raise Lost(str(error)) from None
+            raise Lost(why(error) if isinstance(error, actorimage.Ended) else str(error)) from None
         self.since = time.monotonic()
         self.begun += not is_old
 
@@ -94,7 +114,8 @@ class Desk:
     def __init__(self, path, looks_only=False, line=None):
         """`line` is what there is in place of sessions: an image file."""
         self.path, self.looks_only = path, looks_only or line is not None
-        self.looks, self.changes, self.typed = (line or Line(path, it) for it in (True, looks_only, looks_only))
+        ours = set()
+        self.looks, self.changes, self.typed = (line or Line(path, it, ours) for it in (True, looks_only, looks_only))
 
     @property
     def lines(self):

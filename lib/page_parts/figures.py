@@ -60,8 +60,10 @@ class Figures:
         self.at = now
         posts = rate(status["posts"], before and before["posts"], seconds)
         steps = rate(status["steps"], before and before["steps"], seconds)
+        # An image that keeps no faults counts none.
+        faults = rate(status.get("faults", 0), before and before.get("faults", 0), seconds)
         if before:
-            self.points.append((round(time.time(), 1), posts, round(turns, 1), steps, waiting))
+            self.points.append((round(time.time(), 1), posts, round(turns, 1), steps, waiting, faults))
         used = self.processors.used()
         self.last = {
             "posts": posts,

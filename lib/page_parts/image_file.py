@@ -51,7 +51,7 @@ class FileLine:
     def __init__(self, path):
         data = bytes_of(path)
         self.path, self.file, self.lock = path, read(data), threading.RLock()
-        self.image, self.journal = self.file, journal_beside(path, data)
+        self.image, self.journal, self.ours = self.file, journal_beside(path, data), set()
 
     def be_there(self):
         """The file was read."""

@@ -54,9 +54,16 @@ def install(kept, line, name, source, seen):
     reply = told(kept, line, {"cmd": "replace", "class": name, "over": over, "source": source})
     kept.catch_up()
     if reply.get("error") == "Stale":
-        found = kept.source(name, selector)
-        reply["theirs"] = {"source": found[0], "version": found[1]} if found else {"source": None, "version": 0}
+        reply["theirs"] = theirs(kept, name, selector)
     return {**reply, "selector": selector, "unknown": unknown(kept, source) if "ok" in reply else []}
+
+
+def theirs(kept, name, selector):
+    """The method that is there in place of the one that was seen, and whether the newest edit of it was made by this page."""
+    with kept.lock:
+        source, version = kept.source(name, selector) or (None, 0)
+        edits = kept.history.get((name, selector), [(0, None)])
+        return {"source": source, "version": version, "isOurs": edits[-1][0] in kept.line.ours}
 
 
 def unknown(kept, source):
@@ -73,7 +80,7 @@ def remove(kept, line, name, selector, seen):
     found = kept.source(name, selector)
     if found and found[1] != seen:
         return {"error": "Stale", "said": "somebody has replaced it meanwhile; look at it first",
-            "theirs": {"source": found[0], "version": found[1]}}
+            "theirs": theirs(kept, name, selector)}
     reply = told(kept, line, {"cmd": "remove", "class": name, "selector": selector})
     kept.catch_up()
     if "ok" in reply:

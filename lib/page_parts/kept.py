@@ -60,6 +60,8 @@ class Kept:
     def begin(self):
         self.version, self.installs, self.history, self.seen, self.is_first = 0, {}, {}, [], True
         self.anew += 1
+        # Another image has other versions.
+        self.line.ours.clear()
         self.classes = {name: Class(name, "Object", []) for name in KERNEL_CLASSES}
         self.classes["Object"].above = None
 

@@ -34,11 +34,11 @@ class Page:
         return self.answer(CHANGES, asked)
 
     def type(self, asked):
-        """Takes an entry, or breaks off the one that goes on. With --look its commands are refused one by one, since some only look."""
+        """Takes an entry, or breaks off the one that goes on, and gives back those that have not begun. With --look its commands are
+        refused one by one, since some only look."""
         if asked.get("break"):
-            self.typed.break_off()
-        else:
-            self.typed.type(str(asked.get("text", "")))
+            return {"ok": self.typed.break_off()}
+        self.typed.type(str(asked.get("text", "")))
         return {"ok": True}
 
     def answer(self, kinds, asked):
@@ -48,7 +48,7 @@ class Page:
         try:
             return kind(self, asked)
         except Lost as lost:
-            return {"error": "Lost", "said": lost.sentence}
+            return {"error": "Lost", "said": lost.said(kinds is CHANGES)}
         except OnlyLooks as only:
             return {"error": "OnlyLooks", "said": str(only)}
         except actorimage.Refused as refused:
@@ -74,13 +74,17 @@ def method(page, asked):
 
 
 def senders(page, asked):
-    return {"ok": methods.senders(page.desk.looks, page.kept, page.stats, asked["selector"], page.watched.ticks)}
+    """With the version of the class table of which they are."""
+    found, version = methods.senders(page.desk.looks, page.kept, page.stats, asked["selector"], page.watched.ticks)
+    if found is None:
+        return {"error": "Changing", "said": "edits come faster than senders are told"}
+    return {"ok": found, "edits": version}
 
 
 def implementors(page, asked):
     page.kept.catch_up()
-    names = page.kept.implementors(asked["selector"])
-    return {"ok": [{"class": it, "isKernel": asked["selector"] not in page.kept.classes[it].methods} for it in names]}
+    found, version = methods.implementors(page.kept, asked["selector"])
+    return {"ok": found, "edits": version}
 
 
 def running(page, asked):

@@ -24,14 +24,15 @@ class Stats:
 
     def ask(self, methods, tick):
         """The sites of methods now. Of one that is gone meanwhile there are none."""
-        methods = [it for it in methods if self.kept.source(*it)]
+        found = {it: self.kept.source(*it) for it in methods}
+        methods = [it for it in methods if found[it]]
         commands = [{"cmd": "stats", "class": name, "selector": selector} for name, selector in methods]
         for method, told in zip(methods, self.line.ask_all(commands, 64)):
             self.asked[method] = tick
             if isinstance(told, actorimage.Refused):
                 self.told.pop(method, None)
             else:
-                self.told[method] = self.kept.source(*method)[1], told["sites"]
+                self.told[method] = found[method][1], told["sites"]
 
     def round(self, in_sight, tick):
         """Asks for those in sight that were not asked for lately, and then for others in turn."""

@@ -18,6 +18,7 @@ from .desk import Lost, OnlyLooks
 SENDERS = 65_536
 # Entries that are kept, and lines of one that are.
 MOST_CARDS, MOST_LINES = 200, 2_000
+AGAIN = "the next entry connects again"
 # A client of an image reads and writes no files, and a page does no more than a client.
 NO_FILES = "a page reads and writes no files; bin/workspace --socket does"
 NOT_HERE = {
@@ -32,9 +33,11 @@ NOT_HERE = {
 HELP = """\
 On this page Enter does what is typed, Shift+Enter begins a line, and the keys up and down bring back what was typed. Tab completes
 commands, names, classes, messages and methods of the whole image; in an empty field, and behind Escape, it goes on to what comes next.
+In the source of a method Tab indents, Shift+Tab takes that back, and behind Escape both leave the source.
 The image is served to many, and the server's workers run the actors: a message that is typed waits until its turn has ended, and
-Break off, or Ctrl-C, stops the waiting; the turn goes on. :post does not wait. Edits of others take effect here at the next send, and
-a method that somebody has changed since it was shown or written here is not written over unseen. c := actor 0 names any actor.
+Break off, or Ctrl-C, stops the waiting; the turn goes on. What was typed behind it has not begun then: it is in the field again.
+:post does not wait. Edits of others take effect here at the next send, and a method that somebody has changed since it was shown or
+written here is not written over unseen. c := actor 0 names any actor.
 """.splitlines()
 
 
@@ -57,7 +60,7 @@ class Connection:
         try:
             epoch = self.line.ask({"cmd": "status"})["epoch"]
         except Lost as lost:
-            raise LostEntry(lost.sentence) from None
+            raise LostEntry(f"{lost.sentence}; {AGAIN}") from None
         before, self.before = self.before, (self.line.begun, epoch)
         if before and before[0] != self.line.begun and before[1] != epoch:
             self.begin_again()
@@ -70,7 +73,7 @@ class Connection:
         except OnlyLooks as only:
             raise Wrong(str(only)) from None
         except Lost as lost:
-            raise LostEntry(f"{lost.sentence}; the next entry connects again") from None
+            raise LostEntry(f"{lost.sentence}; {AGAIN}") from None
 
     def end(self):
         """The desk ends the session."""
@@ -127,28 +130,34 @@ class Typed:
     def type(self, text):
         """Takes what was typed, which is cut into entries as a file is."""
         with self.lock:
-            for entry in entries(iter(text.split("\n"))):
-                if entry.text.strip():
-                    self.next += 1
-                    card = {"number": self.next, "typed": entry.text, "lines": [], "state": "waits", "seconds": None, "why": []}
-                    self.cards = [*self.cards, card][-MOST_CARDS:]
-                    self.waiting.append(card)
+            made = [self.begun(entry.text) for entry in entries(iter(text.split("\n"))) if entry.text.strip()]
+            self.cards = [*self.cards, *made][-MOST_CARDS:]
+            self.waiting += made
             self.lock.notify_all()
-        self.changed()
+        self.changed(*made)
+
+    def begun(self, text):
+        """A card of an entry that waits for those before it."""
+        self.next += 1
+        return {"number": self.next, "typed": text, "lines": [], "state": "waits", "seconds": None, "why": []}
 
     def break_off(self):
-        """Breaks off the entry that goes on, and those that wait behind it."""
+        """Breaks off the entry that goes on. Those that wait behind it do not begin; gives what was typed of each."""
         with self.lock:
             self.breaks.asked = True
-            for card in self.waiting:
+            dropped, self.waiting = self.waiting, []
+            for card in dropped:
                 card["state"] = "broken"
-            self.waiting = []
-        self.changed()
+        self.changed(*dropped)
+        return [it["typed"] for it in dropped]
 
-    def changed(self):
-        if self.card is not None:
-            self.card["version"] = self.version + 1
-        self.version += 1
+    def changed(self, *cards):
+        """These cards changed, and the one that goes on may have."""
+        with self.lock:
+            for card in (*cards, self.card):
+                if card is not None:
+                    card["version"] = self.version + 1
+            self.version += 1
         self.told()
 
     def say(self, line):

@@ -4,9 +4,12 @@ import re
 
 from smalltalk.language import KERNEL_SELECTORS
 
-from . import differing, edits, looks, shown, symbols
-from .values import count, show, table
+from . import differing, edits, looks, references, shown, symbols
+from .values import show, table
 from .wrong import Wrong
+
+INLINED = "; where it has blocks behind it, its code stands in place, and no method is run"
+HAVING = "methods that have the symbol #{}, as to post it:"
 
 
 def classes(session, rest):
@@ -56,20 +59,23 @@ def revert(session, rest):
 def implementors(session, rest):
     selector = selector_of(rest)
     names = looks.implementors(session, selector)
-    session.tell([f"{name} >> {selector}" for name in names] or [f"no class has a method {selector}"])
+    inlined = INLINED if selector in references.INLINED else ""
+    session.tell([f"{name} >> {selector}" for name in names] or [f"no class has a method {selector}{inlined}"])
 
 
 def senders(session, rest):
+    """Lists who sends a message. One that is inlined is sent by nobody, so it is looked for in the sources, as a symbol is."""
     selector = selector_of(rest)
-    found = looks.senders(session, selector)
-    having = symbols.methods(session, selector)
-    if not found and not having:
-        session.say(f"no method sends {selector}, and none has the symbol #{selector}")
+    found = [f"{it['class']} >> {it['selector']}" for it in looks.senders(session, selector)]
+    inlined = references.inlining(session, selector)
+    having = [f"{name} >> {own}" for name, own in symbols.methods(session, selector)]
+    if not (found or inlined or having):
+        none = ", none has it inlined," if selector in references.INLINED else ","
+        session.say(f"no method sends {selector}{none} and none has the symbol #{selector}")
         return
-    session.tell([f"{it['class']} >> {it['selector']}" for it in found] or [f"no method sends {selector}"])
-    if having:
-        session.say(f"methods that have the symbol #{selector}, as to post it:")
-    session.tell([f"{name} >> {own}" for name, own in having])
+    session.tell(found or [f"no method sends {selector}"])
+    for head, methods_of in ((f"methods that have {selector} inlined, as it is with blocks:", inlined), (HAVING.format(selector), having)):
+        session.tell([head, *methods_of] if methods_of else [])
 
 
 def selector_of(rest):
@@ -114,40 +120,6 @@ def method_of(session, rest):
         class_name = session.known.actor(value["ref"]).class_name
         raise Wrong(f"{name} is an actor; write its class" + (f", {class_name}" if class_name else ""))
     return name, match[2]
-
-
-# So many actors are listed at once.
-LISTED = 100
-
-
-def actors(session, rest):
-    if not re.fullmatch("[0-9]{0,5}", rest):
-        raise Wrong("write the number of the first actor to be listed after it, or nothing")
-    first = int(rest or 0)
-    found, there = looks.actors(session, first, LISTED)
-    rows = [["actor", "name", "class", "turn", "waiting", ""]]
-    for it in found:
-        names = [name for name, value in session.known.names.items() if value == {"ref": it["actor"]}]
-        waiting = it["accepted"] - it["begun"]
-        rows.append([it["actor"], ", ".join(names), it["class"], turn_of(session, it), waiting, "" if it["open"] else "closed"])
-    if found:
-        session.tell(table(rows))
-    if not there:
-        session.say("there is no actor yet; make one as in  c := Counter actor")
-    elif len(found) < there:
-        more = first + len(found)
-        goes_on = f"; :actors {more}  goes on" if found and more < there else ", numbered from 0"
-        session.say(f"the image has {count(there, 'actor')}{goes_on}")
-
-
-def turn_of(session, told):
-    """Where the turn of an actor stands that the image told of."""
-    phase, running = told["phase"], told["running"]
-    if running:
-        return f"runs {running['class']} >> {running['selector']}"
-    if isinstance(phase, dict):
-        return f"fault {phase['fault']}" if "fault" in phase else f"answered {show(phase['answer'], session.known, told['actor'])}"
-    return "begins" if phase == "start" else "none yet"
 
 
 def names(session, rest):

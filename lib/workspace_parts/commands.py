@@ -2,7 +2,7 @@
 
 from dataclasses import dataclass
 
-from . import advice, browsing, edits, failures, files, inspecting, running, saving
+from . import actors, advice, browsing, edits, failures, files, inspecting, references, running, saving, standing, status
 from .known import near
 from .wrong import Wrong
 
@@ -11,10 +11,11 @@ Counter : Object | count |         defines a class with its variables, or puts i
 Counter >> bump  count := count+1  writes a method, or replaces it
 c := Counter actor                 makes an actor, and names it
 c start. c bump                    sends messages, and shows the last answer
-A line that begins with two spaces goes on with the one before. At a terminal the prompt is blank while a bracket is open,
-and after the name of a method alone; an empty line or Ctrl-D ends that, so a method that is typed has no empty line inside.
-What is pasted is taken as a file is, once Enter is typed behind it. Counter >> bump alone, and an empty line, show a method
-and write nothing. Tab completes names, and after Counter >> whole methods; the keys of the cursor bring back what was typed.
+A line that begins with two spaces goes on with the one before; at a terminal, where that is a method. There the prompt is blank
+while a bracket is open, after the name of a method alone, and where a line of a method ends with a period or an operator; an empty
+line or Ctrl-D ends that, so a method that is typed has no empty line inside. What is pasted is taken as a file is, once Enter is
+typed behind it. Counter >> bump alone, and an empty line, show a method and write nothing, and so does Counter >> at:put: as lists
+have it. Tab completes names, and after Counter >> whole methods; the keys of the cursor bring back what was typed.
 Ctrl-C breaks a long run off, and its turn stays where it was.
 """.splitlines()
 
@@ -86,10 +87,12 @@ COMMANDS = {
         Described(":post c work: 100", "sends a message, and leaves its turn to :step and :run", running.post),
         Described(":step 1", "takes quanta; one if no number is given", running.step),
         Described(":run", "takes quanta until nothing is left to do", running.run),
-        Described(":turn 3 of c", "shows how a turn ended; as  :turn of c  the last one that the actor began", running.turn),
+        Described(
+            ":turn 3 of c", "shows how a turn ended; as  :turn of c  the last one that the actor began, also where it stands", standing.turn
+        ),
         Described(":close c", "closes an actor's mailbox", running.close),
         Described(":checkpoint", "empties the history; turns are numbered anew, and statistics begin at 0", running.checkpoint),
-        Described(":remove Counter bump", "removes a method", browsing.remove),
+        Described(":remove Counter bump", "removes a method, and tells which messages wait for it and which turns run it", browsing.remove),
         Described(":classes", "lists the classes that were defined", browsing.classes),
         Described(":methods Counter", "lists the methods of a class; alone, all methods; as  :methods Counter bump  one", browsing.methods),
         Described(
@@ -97,9 +100,16 @@ COMMANDS = {
         ),
         Described(":revert Counter bump 3", "writes a method again as it was in a version", browsing.revert),
         Described(":implementors bump", "lists the classes that have a method of their own", browsing.implementors),
-        Described(":senders bump", "lists the methods that send a message, and those that have its symbol, to post it", browsing.senders),
+        Described(":senders bump", "lists the methods that send a message, have it inlined, or have its symbol, to post it", browsing.senders),
+        Described(
+            ":references Counter", "lists the methods that name a class; as  :references count of Counter  a variable", references.references
+        ),
         Described(":edits 20", "lists the newest edits; what a removed method was, :versions Counter bump shows", edits.edits),
-        Described(":actors 7", "lists the actors from a number on, with what they run; alone, from the first", browsing.actors),
+        Described(
+            ":actors Counter failed",
+            "lists the actors; also of a class, or those  running,  waiting,  failed  or  closed,  and from a number on",
+            actors.actors,
+        ),
         Described(
             ":inspect c",
             "shows an actor: variables, mailbox, turn; as  :inspect c 1  an object of its own, and  all  all",
@@ -107,6 +117,7 @@ COMMANDS = {
         ),
         Described(":faults 9", "lists the newest turns that failed; as  :faults c  those of an actor; alone, each kind once", failures.faults),
         Described(":names", "lists what was named", browsing.names),
+        Described(":status", "shows in numbers what the image has, and how much is left of its history and its edits", status.status),
         Described(":stats Counter bump", "shows how the caches answered the sends of a method", browsing.stats),
         Described(":expect 5", "is refused where the messages before have another answer, so that a file can check", running.expect),
         Described(":load FILE", "does what a file has: definitions, messages, comments", files.load),

@@ -4,7 +4,7 @@ import re
 from dataclasses import dataclass
 
 from .habits import no_token, subclass
-from .tokens import begins_comment, body, has_body, is_open, without_comments
+from .tokens import begins_comment, body, goes_on, has_body, is_open, without_comments
 from .wrong import Wrong
 
 WORD = r"[^\s:|.;()\[\]<>=#]+"
@@ -65,15 +65,23 @@ def lacks_body(text):
 
 
 def wants_more(text):
-    """Whether the lines so far are not the whole entry: a bracket is open, or a method has a pattern alone, or a comment is open
-    before which nothing is to be done. One that is open behind that is a slip, which is told at once."""
+    """Whether the lines so far are not the whole entry: a bracket is open, or a method has a pattern alone or ends where more comes, or
+    a comment is open before which nothing is to be done. One that is open behind that is a slip, which is told at once."""
     try:
         found = form(text)
     except Wrong:
         return False
     if isinstance(found, Method):
-        return is_open(found.source) or lacks_body(text) or begins_comment(body(found.source))
+        return is_open(found.source) or lacks_body(text) or begins_comment(body(found.source)) or goes_on(found.source)
     return isinstance(found, Statements) and (is_open(text) or begins_comment(text))
+
+
+def is_one_line_method(text):
+    """Whether a text is a method in one line, which further lines may go on with."""
+    try:
+        return "\n" not in text and isinstance(form(text), Method)
+    except Wrong:
+        return False
 
 
 def check_below(plain):

@@ -5,6 +5,7 @@ import re
 
 from . import looks
 from .running import actor_of
+from .tokens import arguments, temporaries
 from .values import a_or_an, count, show
 from .wrong import Wrong
 
@@ -76,11 +77,10 @@ class Inspected:
             return f"object {value['local']}, {a_or_an(self.objects[value['local']]['class'])}"
         return show(value, self.session.known, self.number)
 
-    def message(self, selector, arguments):
+    def message(self, selector, values):
         """A message as it is typed."""
-        values = [self.value(it) for it in arguments]
         words = [f"{word}:" for word in selector.split(":")[:-1]] if ":" in selector else [selector]
-        return " ".join(f"{word} {value}" for word, value in zip(words, values)) if values else selector
+        return " ".join(f"{word} {value}" for word, value in zip(words, values)) or selector
 
     def mailbox(self):
         waiting = self.told["pending"]
@@ -88,7 +88,7 @@ class Inspected:
         for it in waiting[:MOST]:
             sender = it["sender"]
             by = f"sender {sender}" if isinstance(sender, int) else self.value(sender)
-            yield f"  {self.message(it['selector'], it['args'])}  from {by}, number {it['seq']}"
+            yield f"  {self.message(it['selector'], map(self.value, it['args']))}  from {by}, number {it['seq']}"
         yield from more(waiting)
 
     def turn(self):
@@ -107,13 +107,37 @@ class Inspected:
         if frames:
             return f"runs {self.frame(frames[0])}"
         if kind == "start":
-            return f"begins {self.message(of['selector'], of['args'])}"
+            return f"begins {self.message(of['selector'], map(self.value, of['args']))}"
         return f"fault {of}" if kind == "fault" else f"answered {self.value(of)}"
 
     def frame(self, frame):
-        """The method of a frame, and what it runs in if that is not the actor itself."""
-        where = "" if frame["receiver"] == {"local": 0} else f"  in {self.value(frame['receiver'])}"
-        return " >> ".join(looks.installed(self.session, frame["method"])) + where
+        """The method of a frame with its arguments, what it runs in with the variables of that, and behind a semicolon its temporaries: as
+        `:why` shows a turn that failed."""
+        name, selector, source = looks.installed(self.session, frame["method"])
+        taken = len(arguments(source))
+        temps = self.named(temporaries(source)[0], frame["temps"][taken:])
+        message = self.message(selector, map(self.in_line, frame["temps"][:taken]))
+        return f"{name} >> {message}    {self.receiver(frame['receiver'])}" + (temps and f"; {temps}")
+
+    def receiver(self, value):
+        """What a method runs in, of an object with its variables."""
+        if not isinstance(value, dict) or "local" not in value:
+            return self.value(value)
+        one = self.objects[value["local"]]
+        held = self.named(self.session.known.slots(one["class"]), one["slots"])
+        return self.in_line(value) + (held and f", {held}")
+
+    def named(self, names, values):
+        """Values behind their names, of many the first ones."""
+        shown = [f"{name} {self.in_line(it)}" for name, it in list(zip(names, values))[:MOST_SLOTS]]
+        return ", ".join(shown + [".."] * (len(values) > MOST_SLOTS))
+
+    def in_line(self, value):
+        """A value, of an object its class and its number."""
+        if not isinstance(value, dict) or "local" not in value:
+            return self.value(value)
+        number = value["local"]
+        return a_or_an(self.objects[number]["class"]) + (f" (object {number})" if number else "")
 
 
 def more(found, most=MOST):

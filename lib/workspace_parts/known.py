@@ -51,8 +51,8 @@ class Written:
 class Known:
     """`versions` has those of the methods that were shown or written last, by the class and the selector; 0 where the class was seen to
     have none of its own. `shown` has their sources, None where there is none. Versions from before a new connection are no longer there.
-    `above` has the class under which each class was shown or put last, and `installed` the class and the selector of installs, by their
-    places among the edits. `written` has the methods that were written here last, the last one last."""
+    `above` has the class under which each class was shown or put last, and `installed` the class, the selector and the source of installs, by
+    their places among the edits. `written` has the methods that were written here last, the last one last."""
 
     def __init__(self):
         self.versions, self.shown, self.above, self.installed = {}, {}, {}, {}

@@ -7,6 +7,9 @@ from .known import KnownClass
 from .tokens import pattern
 from .wrong import Refused
 
+# So many actors an image tells of at once (docs/PROTOCOL.md).
+ACTORS_AT_ONCE = 4_096
+
 
 def classes(session):
     """All classes by their numbers, those of the kernel first."""
@@ -88,9 +91,14 @@ def senders(session, selector):
 
 def edits(session, first=0):
     """The edits behind the first ones, oldest first."""
+    return all_edits(session.turns.ask, first)
+
+
+def all_edits(ask, first=0):
+    """The same, of who can be asked."""
     found = []
     while True:
-        told = session.turns.ask({"cmd": "edits", "from": first + len(found)})
+        told = ask({"cmd": "edits", "from": first + len(found)})
         found += told["edits"]
         if first + len(found) >= told["version"]:
             return found
@@ -121,6 +129,15 @@ def actors(session, first, most):
     return told["actors"], told["count"]
 
 
+def every_actor(session, first=0):
+    """All actors from a number on, one after the other."""
+    there = first + 1
+    while first < there:
+        found, there = actors(session, first, ACTORS_AT_ONCE)
+        yield from found
+        first += ACTORS_AT_ONCE
+
+
 def inspect(session, number):
     """An actor as image files have it, with the number of its turn. Refused if there is no such actor."""
     told = session.turns.ask({"cmd": "inspect", "actor": number})
@@ -135,14 +152,15 @@ def slots(session, name):
 
 
 def installed(session, place):
-    """The class and the selector of a method, by the place of its install among the edits. No edit is ever another one, so what was told
-    is told no more."""
+    """The class, the selector and the source of a method, by the place of its install among the edits. No edit is ever another one, so what
+    was told is told no more."""
     found = session.known.installed
     if place not in found:
         edits = session.turns.ask({"cmd": "edits", "from": place})["edits"]
         for number, edit in enumerate(edits, place):
             if "install" in edit:
-                found[number] = edit["install"]["class"], pattern(edit["install"]["source"])[0]
+                it = edit["install"]
+                found[number] = it["class"], pattern(it["source"])[0], it["source"]
     return found[place]
 
 

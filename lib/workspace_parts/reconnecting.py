@@ -36,6 +36,12 @@ class Reconnecting:
         self.connect_again()
         return self.ask_once_more(command)
 
+    def look(self, command):
+        """The reply to a question while an entry is typed. Where the connection broke, that is left to the next entry."""
+        if self.connection is None:
+            raise Lost("there is no connection")
+        return self.connection.ask(command)
+
     def ask_connected(self, command):
         try:
             return self.connection.ask(command)

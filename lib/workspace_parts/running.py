@@ -1,11 +1,9 @@
-"""The commands that take quanta by hand, and those on turns and mailboxes."""
+"""The commands that take quanta by hand, and those on mailboxes and answers."""
 
 import re
 
-from . import looks
 from .sending import Sending
 from .statements import Actor, Literal, Name, Send, read_statements
-from .turns import Turn
 from .values import count
 from .wrong import Wrong
 
@@ -47,25 +45,6 @@ def take(session, quanta):
     taken, steps = session.turns.go_on(quanta)
     session.say(f"{count(taken, 'quantum')}, {count(steps, 'step')}" if taken else "nothing is ready to run")
     session.tell_ends()
-
-
-def turn(session, rest):
-    match = re.fullmatch(r"(?:([0-9]{1,19})\s+)?of\s+(\S.*)", rest)
-    if not match:
-        raise Wrong("write which turn of which actor, as in  :turn 3 of c")
-    actor = actor_of(session, match[2])
-    which = Turn(actor, int(match[1]) if match[1] else last_of(session, actor))
-    end = session.turns.outcome(which)
-    session.turns.forget(which)
-    session.tell_end(which, end)
-
-
-def last_of(session, actor):
-    """The number of the turn that an actor is in, or was in last."""
-    number = looks.inspect(session, actor)["turn"]
-    if number is None:
-        raise Wrong(f"actor {actor} has begun no turn yet")
-    return number
 
 
 def close(session, rest):

@@ -155,7 +155,7 @@ def asked_of_class(name, selector, arguments):
     if selector in ("includesSelector:", "canUnderstand:", "lookupSelector:") and isinstance(arguments[0], dict) and "sym" in arguments[0]:
         return f":methods {name} {arguments[0]['sym']}  shows what a message to an object of the class runs"
     if selector in ("allInstances", "instanceCount"):
-        return ":actors  lists the actors, with their classes"
+        return f":actors {name}  lists the actors of the class"
     if selector in ("superclass", "subclasses", "instVarNames"):
         return ":classes  lists the classes, with those above them and their variables"
     if selector == "superclass:" and isinstance(arguments[0], dict) and "class" in arguments[0]:

@@ -35,7 +35,7 @@ This image is served to many, and the server's workers run the actors: a message
 A session asks the image for its classes and methods, whoever wrote them (:classes, :methods, :versions, :senders, :implementors), for
 what anybody edited (:edits), how a turn of any actor ended (:turn 3 of actor 0), what the actors run (:actors), what one of them holds
 and which messages wait for it (:inspect actor 0), and how often a method's sends were done (:stats).
-:names and Tab have what this session typed, and what it was told of classes and methods; :methods alone tells of all, and :sources
+:names has what this session named. Tab completes what the image has, whoever wrote it; :methods alone tells of all, and :sources
 writes all.
 It cannot see who else is connected, what others named, or what a turn answers that it does not ask for. Turns that failed since the last
 prompt are told of before the next one, whoever posted their messages (:faults, :why actor 0), and Enter alone asks for them. Edits of
@@ -43,7 +43,7 @@ others take effect here at the next send, and are not told; but a method that so
 is not written over or removed: what is there now is shown, and what is typed again takes the place of that. So it is with a class that
 somebody has put under another one. c := actor 0 names any actor by its number. Where somebody has a checkpoint, turns of before are not told of any more.
 Where the connection breaks, the next entry at a terminal connects again, asks for the last message of this sender that the image
-has, tells which methods it does not have as they were written here, and goes on. A server that was started with --image FILE saves its image at :save, and when bin/stop ends it.
+has, tells whether turns are numbered anew and which methods it does not have as they were written here, and goes on. A server that was started with --image FILE saves its image at :save, and when bin/stop ends it.
 """.splitlines()
 
 # Commands that one might look for, and why they are not there.

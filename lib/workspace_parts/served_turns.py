@@ -9,19 +9,21 @@ from .wrong import BrokenOff, Refused, Wrong
 WAIT = 200
 # What is said behind a new connection: of a session that has posted nothing, of an image that has nothing of the sender, and of one
 # that has its messages up to a number, all of them or not.
-AGAIN = "connected again; the image may be another one, in which names of actors from before mean nothing"
+AGAIN = "connected again; the image may be another one, in which names of actors and numbers of turns from before mean nothing"
 NEW = "connected again; the image has no message of sender {}: it is another one, or was saved before, and names of actors may mean nothing"
 HAS = "connected again; the image has the messages of sender {} up to number {}"
 HAS_NOT = "connected again; the image was saved before: it has the messages of sender {} up to number {}, and not those up to {}"
+# What is said besides where the epoch is another one. By a journal turns may have the numbers of before.
+ANEW = "turns are numbered anew, unless a journal has brought them back: the server was started again, or somebody had a checkpoint"
 NUMBERED_ANEW = "somebody has had a checkpoint meanwhile: turns are numbered anew, and how {} ended is not known here"
 NOBODY_RUNS = "the server's workers run the actors, so there is nothing to run here; :turn 3 of c asks how a turn ended"
 
 
 class ServedTurns(Turns):
     """`epoch` is that of the image's turns, as it was before the first message of those that are waited for was posted; None where it is
-    to be asked for. `room` is how much the history held and might hold then."""
+    to be asked for. `seen` is the last one that was told, and `room` how much the history held and might hold then."""
 
-    epoch, room = None, (0, HISTORY)
+    epoch, seen, room = None, None, (0, HISTORY)
 
     def go_on(self, quanta=None, turn=None):
         raise Wrong(NOBODY_RUNS)
@@ -37,6 +39,7 @@ class ServedTurns(Turns):
         if self.epoch is None:
             status = self.ask({"cmd": "status"})
             self.epoch, self.room = status["epoch"], (status["history"], status["history_most"])
+            self.seen = self.epoch
 
     def may_have_run(self):
         return True
@@ -97,11 +100,16 @@ class ServedTurns(Turns):
         return 0
 
     def begin_again(self):
-        """Behind a new connection the image may be another one, in which the numbers of turns mean others. Says what it has of the
-        sender's messages, whose numbers go on behind them."""
+        """Behind a new connection the image may be another one, in which the numbers of turns mean others. The lines on that, and on what it
+        has of the sender's messages, whose numbers go on behind them."""
         self.waiting, self.ends, self.selectors, self.epoch = [], {}, {}, None
+        before = self.seen
         self.learn_epoch()
         here, self.last = self.last, self.last_in_image()
+        return [self.had(here), *([ANEW] if before not in (None, self.epoch) else [])]
+
+    def had(self, here):
+        """What is said of an image that has the sender's messages up to the last number that is known, where `here` was the last."""
         if not here:
             return AGAIN
         if not self.last:

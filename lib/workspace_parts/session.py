@@ -1,6 +1,6 @@
 """A session: each entry is done, and what it gives is said."""
 
-from . import commands, failures, looks, shown, unseen
+from . import commands, failures, looks, removing, shown, unseen
 from .entries import Command, Definition, Method, form
 from .known import Known
 from .learning import learn
@@ -10,7 +10,7 @@ from .refused import lines as refused_lines
 from .sending import Sending
 from .sources import marked
 from .statements import read_statements
-from .tokens import has_body, pattern, posted
+from .tokens import bare_selector, has_body, pattern, posted
 from .values import show
 from .wrong import Died, Faulted, Lost, Refused, Stopped, Wrong
 
@@ -65,7 +65,7 @@ class Session:
         self.known.begin_again()
         said = self.turns.begin_again()
         self.news.begin()
-        return [said, *unseen.lost(self)]
+        return [*said, *unseen.lost(self)]
 
     def close(self):
         """Ends the session, and says whether what was to be kept is kept: in its file, or beside it."""
@@ -222,6 +222,9 @@ class Session:
 
     def install(self, found):
         """A method that stands already is not loaded anew, but of a served image nobody knows what stands."""
+        if not self.loading and (named := bare_selector(found.source)):
+            self.tell(shown.by_selector(self, found.holder, named))
+            return
         selector = (pattern(found.source) or ("", 0))[0]
         holder = self.known.classes.get(found.holder)
         stands = holder and holder.methods.get(selector) == found.source and not self.image.is_served
@@ -269,7 +272,7 @@ class Session:
         self.tell(shown.shown(self, found, selector, head))
 
     def remove(self, class_name, selector):
-        """Removes a method, and tells if methods send it that no class has any more."""
+        """Removes a method, and tells if methods send it that no class has any more, and what is left that asks for it or runs it."""
         command = {"cmd": "remove", "class": class_name, "selector": selector}
         if self.image.is_served and (class_name, selector) in self.known.shown:
             unseen.check(self, command, selector)
@@ -279,6 +282,7 @@ class Session:
             self.known.classes[class_name].methods.pop(selector, None)
         if looks.senders(self, selector) and not looks.implementors(self, selector):
             self.say(f"no class has a method {selector} any more; :senders {selector}  lists those that send it")
+        self.tell(removing.left(self, class_name, selector))
 
     def make_actor(self, class_name):
         number = self.turns.ask({"cmd": "actor", "class": class_name})["actor"]

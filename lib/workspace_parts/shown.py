@@ -1,5 +1,7 @@
 """What is said where a method's pattern alone is typed. That is a question to the image: it writes nothing."""
 
+import re
+
 from . import looks
 from .known import near
 from .wrong import Wrong
@@ -8,6 +10,8 @@ NO_BODY = "a method without a body is not written; one that does nothing is  {} 
 # What is said where more than the pattern was typed: elsewhere an empty line often stands behind a comment.
 TYPED_BELOW = "an empty line ends a method that is typed; type the body right below"
 FILED_BELOW = "; behind an empty line a body goes on with lines that begin with two blanks or a tab"
+# What the arguments of a pattern are called that nobody has written.
+ARGUMENTS = "xyzuvwab"
 
 
 def refuse(found, head):
@@ -45,6 +49,16 @@ def method(session, name, selector):
     if found is None:
         raise Wrong(missing(session, name, selector))
     return lines_of(found, selector) + ([] if found["class"] == name else [inherited(name, found["class"])])
+
+
+def by_selector(session, name, selector):
+    """The lines for a method whose selector alone was typed, without arguments, as lists show it."""
+    if looks.shown_source(session, name, selector):
+        return method(session, name, selector)
+    words = re.findall("[^:]+:", selector) or [selector] * (not selector[0].isalpha())
+    pattern = " ".join(f"{word} {argument}" for word, argument in zip(words, ARGUMENTS))
+    wanted = [f"to write one, name its arguments, as in  {name} >> {pattern}"] if pattern else []
+    return [missing(session, name, selector), *wanted]
 
 
 def now(session, name, selector):

@@ -6,7 +6,7 @@ from . import habits
 from .advice import KINDS, REFUSALS
 from .known import near
 from .statements import MOST_LETTERS
-from .tokens import Token, arguments, pattern, temporaries, tokens
+from .tokens import Token, arguments, ends_in_answer, pattern, temporaries, tokens
 
 WIDEST = 76
 BEFORE, DOTS = 40, ".."
@@ -113,14 +113,7 @@ class Fault:
         """Whether the statement before this one, in the same brackets, is an answer."""
         if not self.before or self.before[-1].kind != "." or self.here in (".", ""):
             return False
-        depth = 0
-        for token in reversed(self.before[:-1]):
-            depth += {")": 1, "]": 1, "(": -1, "[": -1}.get(token.kind, 0)
-            if depth < 0 or (depth == 0 and token.kind == "."):
-                return False
-            if depth == 0 and token.kind == "^":
-                return True
-        return False
+        return ends_in_answer(self.before[:-1])
 
     def bad_pattern(self):
         if self.here[:1].isupper():
@@ -128,13 +121,13 @@ class Fault:
         if self.before and self.before[-1].kind in ("keyword", "binary"):
             return self.no_argument(self.before[-1].text)
         if self.token.kind == "symbol" and not self.before:
-            return "a pattern has no #; to see a method type  :methods  with its class and its name"
+            return "a pattern has no #; take it out"
         return KINDS["BadPattern"]
 
     def no_argument(self, keyword):
         if self.token.kind != "end":
             return f"{self.stands()} where the name of an argument is expected"
-        return f"the name of an argument is wanted, as in  {keyword} x; to see a method type  :methods  with its class and its name"
+        return f"the name of an argument is wanted, as in  {keyword} x"
 
     def too_large(self):
         if len(self.here.rstrip(":")) > MOST_LETTERS and self.token.kind in ("word", "keyword"):

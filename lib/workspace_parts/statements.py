@@ -11,10 +11,7 @@ LEAST, MOST = -(2**63), 2**63 - 1
 MOST_LETTERS = 64
 MOST_ACTORS = 65_535
 LITERALS = {"nil": None, "true": True, "false": False}
-ANSWER = (
-    "answers stand in methods only; at a terminal an empty line ends a method, in a file begin each line of it with two blanks "
-    "or a tab"
-)
+ANSWER = "answers stand in methods only; a line that begins with two blanks or a tab goes on with a method"
 RESERVED = ("self", "super", "thisActor", *LITERALS)
 
 

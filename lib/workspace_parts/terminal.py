@@ -3,10 +3,15 @@
 import os
 import re
 
+from smalltalk.language import KERNEL_SELECTORS
+
+from .actors import STATES
 from .commands import COMMANDS
+from .completing import Completer
 from .copied import MORE, PROMPT
-from .cutting import entries
-from .entries import Method, form, wants_more
+from .cutting import continues, entries
+from .entries import Method, form, is_one_line_method, wants_more
+from .references import INLINED
 from .wrong import Wrong
 
 try:
@@ -20,18 +25,21 @@ HISTORY_LINES = 1000
 BREAK = "\x1e"
 # What ends a word. A colon, a slash and their like belong to commands, selectors and names of files.
 ENDS = " \t\n()[];|^\"#,=<>"
+OF_KERNEL = [selector for own in KERNEL_SELECTORS.values() for selector in own]
 # Has the terminal say what is pasted, so that it comes as a whole. Python leaves this out.
 PASTES = "set enable-bracketed-paste on"
 
 
-def read_entry(read=input):
+def read_entry(read=input, before=""):
     """The lines of one entry. One that goes over several lines is ended by an empty line, or by Ctrl-D; messages are ended too
-    where their brackets close."""
+    where their brackets close. A line that begins with two blanks or a tab goes on with a method in one line that came before it."""
     length = readline.get_current_history_length() if readline else 0
     text = read(PROMPT)
     if "\n" in text:
         return text
     text = text.removeprefix(PROMPT)
+    if continues(text) and text.strip() and is_one_line_method(before):
+        text, length = f"{before}\n{text}", max(0, length - 1)
     while wants_more(text) or is_method(text) and "\n" in text:
         part = read_more(read)
         if not part.strip():
@@ -80,12 +88,14 @@ def is_method(text):
 def talk(session):
     """Reads and does entries until the end."""
     start_reading(session)
+    text = ""
     try:
         while not session.is_over:
             try:
-                text = read_entry()
+                text = read_entry(before=text)
             except KeyboardInterrupt:
                 print()
+                text = ""
                 continue
             except EOFError:
                 see_end()
@@ -116,7 +126,8 @@ def start_reading(session):
     change_history(BREAK, "\n")
     readline.set_history_length(HISTORY_LINES)
     readline.set_completer_delims(ENDS)
-    readline.set_completer(lambda text, state: nth(session, text, state))
+    completer = Completer(session, candidates)
+    readline.set_completer(lambda text, place: completer.nth(readline.get_line_buffer()[: readline.get_begidx()], text, place))
     for line in ["bind ^I rl_complete"] if "libedit" in (readline.__doc__ or "") else ["tab: complete", PASTES]:
         readline.parse_and_bind(line)
 
@@ -137,11 +148,6 @@ def change_history(old, new):
         line = readline.get_history_item(place + 1)
         if line and old in line:
             readline.replace_history_item(place, line.replace(old, new))
-
-
-def nth(session, text, state):
-    found = candidates(session.known, readline.get_line_buffer()[: readline.get_begidx()], text)
-    return found[state] if state < len(found) else None
 
 
 def candidates(known, before, text):
@@ -170,7 +176,11 @@ def command_words(known, name, given, text):
     if name in ("methods", "stats", "remove", "versions", "revert"):
         return [*known.classes] if not given else own_selectors(known, given[0])
     if name in ("implementors", "senders"):
-        return known.selectors(None)
+        return sorted({*known.selectors(None), *OF_KERNEL, *(INLINED if name == "senders" else ())})
+    if name == "references":
+        return [*known.classes, *variables(known)] if not given else ["of"] if len(given) == 1 else [*known.classes]
+    if name == "actors":
+        return [*known.classes, *STATES] if not given else [*STATES]
     if name == "help":
         return [f":{it}" for it in COMMANDS]
     return message_words(known, " ".join(given)) if name == "post" and given else [*known.names]
@@ -183,6 +193,10 @@ def sources(known, name):
 
 def own_selectors(known, name):
     return sorted(known.classes[name].methods) if name in known.classes else []
+
+
+def variables(known):
+    return sorted({slot for it in known.classes.values() for slot in it.slots})
 
 
 def message_words(known, before):

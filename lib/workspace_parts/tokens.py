@@ -79,6 +79,16 @@ def pattern(source):
     return (selector, stop) if selector else None
 
 
+def bare_selector(source):
+    """The selector that a source is, without the names of arguments, as lists show it, with or without its #; None of any other."""
+    *found, last = tokens(source)
+    if last.kind != "end" or not found:
+        return None
+    if len(found) == 1 and found[0].kind in ("binary", "symbol"):
+        return found[0].text.removeprefix("#")
+    return "".join(it.text for it in found) if all(it.kind == "keyword" for it in found) else None
+
+
 def temporaries(source):
     """The temporaries of a source, and the place after them; no names and the place after the pattern if it has none."""
     start = (pattern(source) or ("", 0))[1]
@@ -105,6 +115,30 @@ def posted(source):
 def body(source):
     """What stands after the pattern and the temporaries of a source."""
     return source[temporaries(source)[1] :]
+
+
+# What ends a line behind which a statement or an operand comes.
+BEFORE_MORE = ("binary", "keyword", "assign", "^", ";", ".")
+
+
+def goes_on(source):
+    """Whether a source ends where more comes. Behind an answer and its period nothing does."""
+    *found, last = tokens(body(source))
+    if pattern(source) is None or last.kind != "end" or len(found) < 2 or found[-1].kind not in BEFORE_MORE:
+        return False
+    return found[-1].kind != "." or not ends_in_answer(found[:-1])
+
+
+def ends_in_answer(found):
+    """Whether the last statement of some tokens, in the brackets in which they end, is an answer."""
+    depth = 0
+    for token in reversed(found):
+        depth += {")": 1, "]": 1, "(": -1, "[": -1}.get(token.kind, 0)
+        if depth < 0 or (depth == 0 and token.kind == "."):
+            return False
+        if depth == 0 and token.kind == "^":
+            return True
+    return False
 
 
 def has_body(source):

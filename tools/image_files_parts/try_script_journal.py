@@ -15,6 +15,7 @@ from .try_saves import SCRIPTS
 
 JOURNAL = ("--journal",)
 SAVE = b'{"cmd":"save"}'
+MEGABYTE = 1_000_000
 # Behind so many lines a script is killed.
 FEW = 4
 
@@ -78,6 +79,18 @@ def script_saves_and_is_killed(program):
     return f"{len(SCRIPTS)} scripts, {kills} kills"
 
 
+def long_journal_is_told_of(program):
+    """That a journal of a megabyte or more is done again is said on standard error, since it may take seconds; of a shorter one nothing is."""
+    empty = file_text({"actors": [], "edits": [], "format": 2, "names": [], "posts": 0, "senders": [], "steps": 0}).encode()
+    line = b'{"actor":"Object"}\n'
+    few = (MEGABYTE - 1) // len(line)
+    for count, said in ((few, b""), (few + 1, b"actorimage: doing %s.journal again, 1 MB\n" % program.at("file").encode())):
+        program.put("file", empty)
+        program.put("file.journal", header(empty) + line * count + b"\n")
+        same(f"{count} lines", program.script(program.at("file"), options=JOURNAL), Ended(0, b"", said))
+    return "2 journals"
+
+
 def refused_script_keeps_its_journal(program):
     """A script with a journal that is refused leaves image and journal, and nothing of it is lost. Without the journal no script goes on
     from there, and while a script goes on no other has the journal."""
@@ -98,4 +111,4 @@ def refused_script_keeps_its_journal(program):
     return f"{len(ENDINGS)} scripts"
 
 
-TRIALS = (script_is_killed, script_saves_and_is_killed, refused_script_keeps_its_journal)
+TRIALS = (script_is_killed, script_saves_and_is_killed, long_journal_is_told_of, refused_script_keeps_its_journal)

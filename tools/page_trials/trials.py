@@ -5,11 +5,12 @@ import traceback
 
 from page_parts import watch
 
-from . import browser, try_actors, try_classes, try_faults, try_faults_in_browser, try_file_in_browser, try_image_file, try_in_browser
-from . import try_letting_in, try_lost_in_browser, try_own_in_browser, try_sizes_in_browser, try_typed
+from . import browser, try_actors, try_boxes_in_browser, try_classes, try_counts_in_browser, try_faults, try_faults_in_browser
+from . import try_file_in_browser, try_image_file, try_in_browser
+from . import try_letting_in, try_lost_in_browser, try_own_in_browser, try_sizes_in_browser, try_typed, try_work_in_browser
 
-PARTS = (try_letting_in, try_classes, try_actors, try_faults, try_typed, try_image_file, try_in_browser, try_own_in_browser, try_file_in_browser,
-    try_faults_in_browser, try_lost_in_browser, try_sizes_in_browser)
+PARTS = (try_letting_in, try_classes, try_actors, try_faults, try_typed, try_image_file, try_in_browser, try_own_in_browser, try_work_in_browser,
+    try_counts_in_browser, try_file_in_browser, try_faults_in_browser, try_lost_in_browser, try_sizes_in_browser, try_boxes_in_browser)
 # Seconds of a tick in a trial.
 TICK = 0.2
 

@@ -169,7 +169,8 @@ def pictures_are_drawn(program):
     base = {"posts": 0, "steps": 0, "history": 0, "history_most": 1_000, "edits": 0, "edits_left": 2_048, "workers": 1, "sessions": 1,
         "actors": 0, "classes": 8, "names": 22}
     for second in range(3):
-        figures.take({**base, "posts": 10 * second, "history": 100 * second}, 0, 0, float(second))
+        figures.take({**base, "posts": 10 * second, "history": 100 * second, "faults": 3 * second}, 0, 0, float(second))
+    same([it[1:] for it in figures.points], [(10.0, 0, 0.0, 0, 3.0)] * 2)
     same((figures.last["posts"], figures.last["historyFull"], figures.last["editsFull"], figures.last["processors"]), (10.0, 8, None, None))
 
 

@@ -3,6 +3,8 @@
 import json
 import os
 import random
+import threading
+import time
 
 import actorimage
 from common.repository import TOP
@@ -16,6 +18,9 @@ from smalltalk.compiler import compile_method
 from smalltalk.language import BadSource
 
 from .try_common import Opened, image_of, post, same, true, until
+
+# Lists that are asked for while another client edits.
+ENOUGH = 40
 
 
 def told_by_the_image(image):
@@ -158,6 +163,40 @@ def a_method_is_told(program):
             same(row["above"], "Object")
 
 
+def lists_are_of_one_version(program):
+    """Who has a selector, who sends it, and the versions of a method, asked while another client edits: each list is that of the version
+    of the classes that it names."""
+    with image_of(program, shop=False) as (server, image), Opened(server.path) as opened:
+        for name in ("Odd", "Even"):
+            image.define(name)
+        first, told_of, ends = image.install("Even", "m ^self m") + 1, [], []
+
+        # Behind an even number of edits Even alone has m, which sends it; then both; then Odd alone; then both; and so on.
+        def edit():
+            with actorimage.connect(server.path) as other:
+                while len(told_of) < ENOUGH and other.status().edits_left > 4:
+                    for name, is_removed in (("Odd", False), ("Even", True), ("Even", False), ("Odd", True)):
+                        other.remove(name, "m") if is_removed else other.install(name, "m ^self m")
+                        time.sleep(0.002)
+            ends.append(True)
+
+        def there(version):
+            return [["Even"], ["Odd", "Even"], ["Odd"], ["Odd", "Even"]][(version - first + 1) % 4]
+
+        thread = threading.Thread(target=edit)
+        thread.start()
+        while not ends:
+            for what in ("implementors", "senders"):
+                told = opened.look(what, selector="m")
+                if "ok" in told:
+                    same((what, told["edits"], sorted(it["class"] for it in told["ok"])), (what, told["edits"], sorted(there(told["edits"]))))
+                    told_of.append(told["edits"])
+            told = opened.look("method", **{"class": "Odd", "selector": "m", "own": True})["ok"]
+            same((told["edits"], told.get("version", 0)), (told["edits"], told["versions"][-1]["version"] if "Odd" in there(told["edits"]) else 0))
+        thread.join()
+        true(len(told_of) >= ENOUGH and len(set(told_of)) > 9, f"{len(told_of)} lists were told, of {len(set(told_of))} versions")
+
+
 def errors_have_their_places(program):
     """A refused source is marked where it is wrong, with the workspace's advice; other refusals are said; nothing is installed."""
     with image_of(program) as (server, image), Opened(server.path) as opened:
@@ -194,12 +233,12 @@ def nobody_is_overwritten(program):
         version = opened.look("method", **{"class": "Till", "selector": "sold"})["ok"]["version"]
         theirs = image.install("Till", "sold ^7")
         told = installed("sold ^8", "sold", version)
-        same((told["error"], told["theirs"]), ("Stale", {"source": "sold ^7", "version": theirs}))
+        same((told["error"], told["theirs"]), ("Stale", {"source": "sold ^7", "version": theirs, "isOurs": False}))
         same(image.source("Till", "sold").source, "sold ^7")
         mine = installed("sold ^8", "sold", theirs)["ok"]["version"]
         same((image.source("Till", "sold").source, mine), ("sold ^8", theirs + 1))
         image.remove("Till", "sold")
-        same(installed("sold ^9", "sold", mine)["theirs"], {"source": None, "version": 0})
+        same(installed("sold ^9", "sold", mine)["theirs"], {"source": None, "version": 0, "isOurs": False})
         same(installed("sold ^9", "sold", 0)["selector"], "sold")
         # A pattern that was changed takes the place of no method that is there.
         there = image.source("Till", "weigh:").version
@@ -234,5 +273,5 @@ def classes_are_made_and_moved(program):
 
 
 TRIALS = (
-    edits_are_kept, sends_stand_in_their_places, a_method_is_told, errors_have_their_places, nobody_is_overwritten, classes_are_made_and_moved,
+    edits_are_kept, sends_stand_in_their_places, a_method_is_told, lists_are_of_one_version, errors_have_their_places, nobody_is_overwritten, classes_are_made_and_moved,
 )

@@ -169,3 +169,53 @@ def post(image, sender, *messages):
     for turn in list(image.sender(sender).post_all(messages)):
         with contextlib.suppress(actorimage.Fault):
             image.wait(turn)
+
+
+@contextlib.contextmanager
+def beside(path, begun):
+    """Does something each tenth of a second, in a session of its own; `begun` gives what is done, from the session."""
+    ends = threading.Event()
+
+    def work():
+        with actorimage.connect(path) as image:
+            do = begun(image)
+            while not ends.wait(0.1):
+                do()
+
+    thread = threading.Thread(target=work)
+    thread.start()
+    try:
+        yield
+    finally:
+        ends.set()
+        thread.join()
+
+
+def never_full(path):
+    """Has a checkpoint each time the history is half full, as where turns go on that do not end."""
+
+    def begun(image):
+        def do():
+            status = image.status()
+            if status.history * 2 > status.history_most:
+                image.checkpoint()
+
+        return do
+
+    return beside(path, begun)
+
+
+def going_on(path, *rounds):
+    """Posts the messages of each round again and again, as other clients do."""
+
+    def begun(image):
+        sender = image.sender(60_000)
+
+        def do():
+            for actor, selector, *values in rounds:
+                with contextlib.suppress(actorimage.Full):
+                    sender.post(actor, selector, *values)
+
+        return do
+
+    return beside(path, begun)

@@ -2,7 +2,7 @@
 
 from page_parts import watch
 
-from .try_common import post, same, until
+from .try_common import going_on, post, same, until
 from .try_faults import NEWEST, prices
 from .try_in_browser import is_legible, shown, typed_over
 
@@ -70,6 +70,26 @@ def faults_lead_to_their_places(program):
         browser.wait("return document.querySelector('#figure-faults .value')?.innerText === '0'")
 
 
+def faults_over_time_are_drawn(program):
+    """Beside messages and steps stand the faults a second, with a line and a chip at the edit after which they come."""
+    chart = "const it = document.querySelector(\"section[aria-label='Faults a second']\");"
+    with shown(program) as (server, image, opened, browser):
+        price, _ = prices(image)
+        browser.click("#tab-pictures")
+        browser.wait(chart + "return it.querySelectorAll('path').length === 2")
+        same(browser.run(chart + "return it.querySelector('.legend').innerText.trim()"), "turns that failed 0")
+        version = image.install("Price", "rate: x ^x zork")
+        browser.wait(chart + "return it.querySelectorAll('line.edit').length && [...it.querySelectorAll('.chip')].some(chip => chip.innerText === arguments[0])",
+            f"{version} Price › rate:")
+
+        label = "const said = it.querySelector('.picture').getAttribute('aria-label');"
+        with going_on(server.path, (price, "rate:", 1)):
+            browser.wait(chart + label + "return said.startsWith('Faults a second: turns that failed ') && !said.endsWith(' 0')")
+        same(browser.run("return [...document.querySelectorAll('.rights .pane')].map(it => it.getAttribute('aria-label'))"),
+            ["Messages a second", "Steps a second", "Faults a second", "Messages that wait", "Mailboxes over time"])
+        legible(browser, "faults over time")
+
+
 def faults_of_the_workspace_are_found(program):
     """A message that is typed and fails leads to the place too; so does what the inspector lists; and an empty inspector lists the newest."""
     with shown(program) as (server, image, opened, browser):
@@ -124,4 +144,4 @@ def the_newest_kept_is_shown_instead(program):
         legible(browser, "another in place of it")
 
 
-TRIALS = faults_lead_to_their_places, faults_of_the_workspace_are_found, the_newest_kept_is_shown_instead
+TRIALS = faults_lead_to_their_places, faults_over_time_are_drawn, faults_of_the_workspace_are_found, the_newest_kept_is_shown_instead

@@ -12,12 +12,20 @@ import threading
 import webbrowser
 
 from page_parts import serving
-from page_parts.letting_in import CHECKS, HEADERS, MOST_BYTES, MOST_CONNECTIONS, user_of
+from page_parts.letting_in import CHECKS, MOST_BYTES, MOST_CONNECTIONS, OF_OTHERS, user_of
 from page_parts.main import opened as led
 from page_parts.serving import Request
 
 from .try_common import PAGE, PATIENCE, SECRET, Opened, image_of, same, true, until
 
+# What the headers say, written again: one that is taken out is missed.
+POLICY = ("default-src 'none'", "script-src 'self'", "style-src 'self'", "connect-src 'self'", "img-src 'self'", "base-uri 'none'",
+    "form-action 'none'", "frame-ancestors 'none'", "require-trusted-types-for 'script'", "trusted-types 'none'")
+SAID = {"Content-Security-Policy": "; ".join(POLICY), "X-Content-Type-Options": "nosniff", "X-Frame-Options": "DENY",
+    "Referrer-Policy": "no-referrer", "Cache-Control": "no-store", "Cross-Origin-Opener-Policy": "same-origin",
+    "Cross-Origin-Resource-Policy": "same-origin"}
+# Connections, and seconds in which a request has to be there.
+ROOM, SECONDS = 32, 15
 LOOK = json.dumps({"what": "implementors", "selector": "isNil"}).encode()
 
 
@@ -109,6 +117,31 @@ def no_other_user(program):
     return None
 
 
+def others_take_no_place(program):
+    """As many connections of another user as there may be of the own one leave room for that; where they are counted with the own ones,
+    they do not."""
+    if os.geteuid() != 0 or not shutil.which("setpriv"):
+        return "left out: it needs root and setpriv"
+    hold = ("import socket, sys, time; all = [socket.create_connection(('127.0.0.1', int(sys.argv[1]))) for _ in range(int(sys.argv[2]))];"
+        "print('held', flush=True); sys.stdin.read()")
+    python = shutil.which("python3", path="/usr/bin:/bin") or sys.executable
+    with image_of(program, shop=False) as (server, _), Opened(server.path) as opened:
+        for counts in (False, True):
+            # Each connection of another user keeps its place until it is refused or leaves.
+            opened.server.others = opened.server.room if counts else threading.BoundedSemaphore(OF_OTHERS)
+            words = ["setpriv", "--reuid=65534", "--regid=65534", "--clear-groups", python, "-c", hold, str(opened.port), str(ROOM)]
+            other = subprocess.Popen(words, stdin=subprocess.PIPE, stdout=subprocess.PIPE, cwd="/", text=True)
+            try:
+                same(other.stdout.readline(), "held\n")
+                if counts:
+                    until(lambda: not opened.server.room.acquire(blocking=False) or opened.server.room.release(), "the end of the room")
+                same((counts, is_let_in(opened)), (counts, not counts))
+            finally:
+                other.communicate()
+            until(lambda: is_let_in(opened))
+    return None
+
+
 def bodies_are_bounded(program):
     """A body that is too large, that is no JSON or no object, or that does not come; and more connections than there may be."""
     with image_of(program, shop=False) as (server, _), Opened(server.path) as opened:
@@ -134,6 +167,7 @@ def bodies_are_bounded(program):
                 same(opened.look("see", window=events[0]["window"], view=view)["error"], "BadCommand")
             last = len(events)
             until(lambda: len(events) > last and events[-1].get("table"), "a tick behind questions that are none")
+        same((MOST_BYTES, MOST_CONNECTIONS), (32_768, ROOM))
         many = [socket.create_connection(("127.0.0.1", opened.port)) for _ in range(MOST_CONNECTIONS)]
         try:
             until(lambda: not opened.server.room.acquire(blocking=False) or opened.server.room.release())
@@ -168,6 +202,7 @@ def slow_ones_are_let_go(program):
             begun.set()
 
     with image_of(program, shop=False) as (server, _), Opened(server.path) as opened:
+        true(Request.timeout <= SECONDS, f"a request may take {Request.timeout} seconds")
         opened.server.RequestHandlerClass = Hasty
         with socket.create_connection(("127.0.0.1", opened.port), timeout=PATIENCE) as slow:
             slow.sendall(b"POST /look HTTP/1.1\r\nHost: ")
@@ -186,7 +221,7 @@ def the_token_is_hidden(program):
             text = b"".join(iter(lambda: stream.recv(65536), b"")).decode()
         true(SECRET not in text, "the token is in a reply")
         true("set-cookie" not in text.lower(), "a cookie is set")
-        for name, value in HEADERS.items():
+        for name, value in SAID.items():
             true(f"{name}: {value}\r\n" in text, f"{name} is missing")
         started = [subprocess.Popen([sys.executable, PAGE, server.path], stdout=subprocess.PIPE, text=True) for _ in range(2)]
         try:
@@ -245,5 +280,5 @@ def nothing_of_files(program):
 
 
 TRIALS = (
-    only_the_page, no_other_user, bodies_are_bounded, slow_ones_are_let_go, the_token_is_hidden, looking_changes_nothing, nothing_of_files,
+    only_the_page, no_other_user, others_take_no_place, bodies_are_bounded, slow_ones_are_let_go, the_token_is_hidden, looking_changes_nothing, nothing_of_files,
 )

@@ -2,9 +2,12 @@
 
 import contextlib
 import http.server
+import os
+import signal
 import subprocess
 import sys
 import threading
+import time
 import webbrowser
 
 import actorimage
@@ -19,6 +22,8 @@ from .try_in_browser import choose, connected, quiet, shown, typed_over
 # What the browser's console says where a server is gone.
 GONE = ("ERR_CONNECTION_REFUSED", "ERR_INCOMPLETE_CHUNKED_ENCODING", "ERR_CONNECTION_RESET", "ERR_EMPTY_RESPONSE",
     "Failed to load resource")
+# Seconds of a sleep: more than a tick, and more than a reply takes.
+ASLEEP = 3
 HOSTILE = "evil \"<img src=x onerror='window.bad=1'><script>window.bad=1</script>\" ^#evil"
 
 
@@ -46,6 +51,61 @@ def drafts_stay(program):
             browser.press("s", "ctrl")
             with actorimage.connect(server.path) as other:
                 until(lambda: other.source("Till", "sold").source == "sold  ^sold + 41")
+
+
+def a_full_server_is_shown(program):
+    """With 64 sessions open the lamp and the words beside it say so, what was seen stays in sight, and the page goes on once one ends."""
+    with shown(program) as (server, image, opened, browser), contextlib.ExitStack() as others:
+        choose(browser, "Till", "sold")
+        # The sessions of the page are given up, and taken by others.
+        with contextlib.suppress(actorimage.TooMany):
+            opened.page.desk.rest()
+            while True:
+                others.enter_context(actorimage.connect(server.path))
+                opened.page.desk.rest()
+        browser.wait("return document.querySelector('#lamp').className === 'lamp full'")
+        browser.wait_text("#as-of", "the server has 64 sessions, as many as it may; this page goes on once one of them ends")
+        same(browser.run("return document.querySelector('#source').value"), "sold  ^sold")
+        others.close()
+        connected(browser)
+        same(browser.text("#as-of"), "")
+
+
+def a_laptop_that_sleeps_goes_on(program):
+    """A machine that sleeps stops the server, the page's server and the browser's window alike. Awake again, the page goes on by itself, with
+    what was typed and what others have edited; so it does where the sleep has cut its sessions."""
+    with contextlib.ExitStack() as stack:
+        server, image = stack.enter_context(image_of(program))
+        browser = stack.enter_context(Browser(1280, 900))
+        started = subprocess.Popen([sys.executable, PAGE, server.path], stdout=subprocess.PIPE, text=True)
+        stack.callback(started.stdout.close)
+        stack.callback(started.wait)
+        stack.callback(started.kill)
+        browser.open(started.stdout.readline().strip())
+        connected(browser)
+        choose(browser, "Till", "sold")
+        typed_over(browser, "^sold", "^sold + 5")
+        browser.write("#entry", "t half typed")
+        for number, cuts in enumerate((False, True)):
+            asleep = [server.process.pid, started.pid]
+            for it in asleep:
+                os.kill(it, signal.SIGSTOP)
+            browser.devtools("Network.enable")
+            browser.devtools("Network.emulateNetworkConditions", offline=cuts, latency=0, downloadThroughput=-1, uploadThroughput=-1)
+            time.sleep(ASLEEP)
+            for it in asleep:
+                os.kill(it, signal.SIGCONT)
+            browser.devtools("Network.emulateNetworkConditions", offline=False, latency=0, downloadThroughput=-1, uploadThroughput=-1)
+            version = image.install("Till", f"weigh: n ^{number}")
+            choose(browser, "Till", "weigh:")
+            browser.wait_text(".crumbs", f"version {version},")
+            choose(browser, "Till", "sold")
+            connected(browser)
+            same(browser.run("return [document.querySelector('#source').value, document.querySelector('#entry').value]"),
+                ["sold  ^sold + 5", "t half typed"])
+        browser.press("s", "ctrl")
+        until(lambda: image.source("Till", "sold").source == "sold  ^sold + 5")
+        same([it for it in browser.log() if not any(part in it for part in (*GONE, "ERR_INTERNET_DISCONNECTED", "ERR_NETWORK"))], [])
 
 
 def a_new_method_has_a_row(program):
@@ -226,5 +286,5 @@ def the_end_of_the_page_is_told(program):
 
 
 TRIALS = (
-    drafts_stay, a_new_method_has_a_row, a_hidden_window_rests, a_file_leads_to_the_page, texts_are_texts, the_browser_keeps_others_out, only_looks_in_the_browser, the_end_of_the_page_is_told,
+    drafts_stay, a_full_server_is_shown, a_laptop_that_sleeps_goes_on, a_new_method_has_a_row, a_hidden_window_rests, a_file_leads_to_the_page, texts_are_texts, the_browser_keeps_others_out, only_looks_in_the_browser, the_end_of_the_page_is_told,
 )

@@ -7,6 +7,22 @@ SHOWN = "return [document.querySelector('.crumbs .C')?.textContent, document.que
 SOURCE = "const it = document.querySelector('#source'); return it.offsetParent === null ? null : it.value"
 
 
+# Keeps each row that ever stands below a source.
+ROWS = """
+  window.rows = [];
+  new MutationObserver(() => window.rows.push(...[...document.querySelectorAll('#under-body .item .code')].map(it => it.innerText)))
+    .observe(document.querySelector('#under-body'), { childList: true });
+"""
+# What is said for a moment stays, since a busy machine may be slow.
+STAYS = "window.later ??= window.setTimeout; window.setTimeout = (what, after) => (after >= 5000 ? 0 : window.later(what, after))"
+# Keeps what is said for a moment.
+TOASTS = """
+  window.said = [];
+  new MutationObserver(all => all.forEach(it => it.addedNodes.forEach(one => window.said.push(one.innerText))))
+    .observe(document.querySelector('#toasts'), { childList: true });
+"""
+
+
 def base_and_sub(image):
     """Two classes, of which each has its own rate. Gives the version of the lower one's."""
     image.define("Base")
@@ -23,6 +39,7 @@ def pressed(browser, text, where="header button, .toast button"):
 
 
 def removed(browser):
+    browser.run(STAYS)
     pressed(browser, "Remove")
     browser.click("#dialog .main")
     browser.wait_text(".toast", "is removed")
@@ -68,6 +85,37 @@ def undo_restores_what_was_removed(program):
         true("conflict" not in browser.run("return document.querySelector('#main').innerHTML"), "another method is told to be replaced")
 
 
+def no_list_mixes_methods(program):
+    """Under Implementors and Senders no row ever stands that pairs a class of one list with a selector of another, also while what was
+    asked is on its way; and a list follows the edits of others."""
+    with shown(program) as (server, image, opened, browser):
+        base_and_sub(image)
+        image.install("Base", "twice ^self rate * 2")
+        true_ones = {"Base › rate", "Sub › rate", "Base › twice", "Till › audit", "Till › sold", "Customer › shop", "Till › sell:", "NightTill › sell:"}
+        browser.run(ROWS)
+        mixed = lambda: set(browser.run("return window.rows")) - true_ones  # noqa: E731
+        for key in ("implementors", "senders"):
+            choose(browser, "Sub", "rate")
+            browser.click(f"#under-{key}")
+            browser.wait_text("#under-body", "Base › ")
+            choose(browser, "Till", "sold")
+            choose(browser, "Till", "sell:")
+            browser.wait_text("#under-body", {"implementors": "NightTill › sell:", "senders": "Customer › shop"}[key])
+        same(mixed(), set())
+        choose(browser, "Sub", "rate")
+        browser.click("#under-implementors")
+        browser.wait("return document.querySelectorAll('#under-body .item').length === 2")
+        # Renamed by what is typed, and then another client gives one more class the selector.
+        typed_over(browser, "rate", "wage")
+        browser.press("s", "ctrl")
+        browser.wait("return document.querySelector('#under-body').innerText.trim() === 'Sub › wage'")
+        image.install("Till", "wage ^1")
+        browser.wait("return document.querySelectorAll('#under-body .item').length === 2")
+        image.remove("Till", "wage")
+        browser.wait("return document.querySelectorAll('#under-body .item').length === 1")
+        same(mixed() - {"Sub › wage", "Till › wage"}, set())
+
+
 def what_is_gone_is_brought_back(program):
     """Of a removed method that a class above also has, the list of those that are gone leads to its own versions, also on a page that is
     opened anew; nothing there removes the other one."""
@@ -100,6 +148,45 @@ def what_is_gone_is_brought_back(program):
         browser.wait("const it = document.querySelector(\"[aria-label='Bring back version \" + arguments[0] + \"']\"); it?.click(); return Boolean(it)", version - 1)
         browser.wait(SOURCE.replace("it.value", "it.value === 'rate ^2'"))
         same([image.source(name, "rate").source for name in ("Sub", "Base")], ["rate ^2", "rate ^7"])
+
+
+def own_edits_are_told_once(program):
+    """What one brings back, removes and undoes is told once, also where a class below it is in sight that runs the method or no longer does;
+    an edit from the workspace is told to be one of this page; and one of another client to be somebody else's."""
+    with shown(program) as (server, image, opened, browser):
+        base_and_sub(image)
+        image.define("Low", "Sub")
+        browser.run(TOASTS)
+
+        def told(*wanted):
+            browser.wait("return window.said.length >= arguments[0]", len(wanted))
+            ticks(opened)
+            found = browser.run("const found = window.said; window.said = []; return found")
+            same([any(part in it for it in found) for part in wanted], [True] * len(wanted))
+            same((len(found), found), (len(wanted), found))
+
+        choose(browser, "Sub", "rate")
+        browser.click("#under-versions")
+        browser.wait("return document.querySelectorAll('#under-body .sect').length === 2")
+        pressed(browser, "Bring back", "#under-body button")
+        told("is back, as version")
+        # Low runs the method of Sub, or that of Base.
+        browser.wait("const it = [...document.querySelectorAll('[role=treeitem]')].find(it => it.dataset.text === 'Low'); it?.click(); return Boolean(it)")
+        browser.click("[data-side=all]")
+        browser.click("[role=option][data-text=rate][data-from=Sub]")
+        browser.wait(SHOWN + " === 'Sub rate'")
+        removed(browser)
+        browser.wait(SHOWN + " === 'Base rate'")
+        told("is removed: version")
+        pressed(browser, "Undo")
+        browser.wait(SHOWN + " === 'Sub rate'")
+        told("is back, as version")
+        browser.write("#entry", "Sub >> rate  ^9\n")
+        browser.wait(SOURCE.replace("it.value", "it.value === 'rate  ^9'"))
+        told("made in the workspace or another window of this page")
+        image.install("Sub", "rate ^10")
+        browser.wait(SOURCE.replace("it.value", "it.value === 'rate ^10'"))
+        told("made by somebody else")
 
 
 def an_own_method_comes_and_goes(program):
@@ -183,5 +270,5 @@ def what_is_typed_stays_with_its_class(program):
 
 
 TRIALS = (
-    undo_restores_what_was_removed, what_is_gone_is_brought_back, an_own_method_comes_and_goes, what_is_typed_stays_with_its_class,
+    undo_restores_what_was_removed, own_edits_are_told_once, no_list_mixes_methods, what_is_gone_is_brought_back, an_own_method_comes_and_goes, what_is_typed_stays_with_its_class,
 )

@@ -54,18 +54,41 @@ def a_long_turn_is_waited_for(program):
         same(opened.page.typed.cards[-1]["lines"][-1], "nil")
 
 
+def entries_that_wait_are_told(program):
+    """Each entry is told at once, also while another one goes on; where that is broken off, those behind it are given back, and told to
+    have not begun."""
+    with image_of(program) as (server, image), Opened(server.path) as opened, opened.watching() as events:
+        def cards():
+            return {it["typed"]: it["state"] for event in events for it in event.get("cards", [])}
+
+        opened.ask("/type", "", text="t := Till actor. t audit")
+        until(lambda: opened.page.typed.waits_for())
+        opened.ask("/type", "", text="t sold")
+        opened.ask("/type", "", text="Till >> two\n  ^2")
+        until(lambda: len(cards()) == 3, "the entries that wait")
+        same(list(cards().values()), ["runs", "waits", "waits"])
+        same(opened.ask("/type", "", **{"break": True})["ok"], ["t sold", "Till >> two\n  ^2"])
+        until(lambda: list(cards().values()) == ["refused", "broken", "broken"], "the entries that have not begun")
+        same(opened.ask("/type", "", **{"break": True})["ok"], [])
+
+
 def a_server_that_ends_is_told(program):
-    """The page says that the image is lost, keeps what it knows, and is there again with another server; entries say so too."""
+    """The page says that the server went away, keeps what it knows, and is there again with another server; changes and entries say so
+    too, and what the page does then."""
     with image_of(program) as (server, image), Opened(server.path) as opened:
         opened.type("t := Till actor. t sold")
+        opened.do("close", actor=99)
         with opened.watching(view="actors", table={"count": 5}) as events:
             until(lambda: events[-1].get("figures"))
             image.end()
             server.end()
             lost = until(lambda: next((it for it in events if it["state"] == "lost" and it["asOf"]), None))
-            true("no server" in lost["said"] or "no whole reply" in lost["said"] or lost["said"], "why is not said")
-            same(opened.do("define", name="A", above="Object", slots=[])["error"], "Lost")
-            same(opened.type("t sold")["state"], "lost")
+            same(lost["said"], desk.WENT_AWAY)
+            told = [opened.do("define", name="A", above="Object", slots=[]) for _ in range(2)]
+            same((told[0]["error"], told[0]["said"]), ("Lost", f"{desk.WENT_AWAY}; {desk.PERHAPS}; {desk.GOES_ON}"))
+            true(told[1]["said"].startswith("no server listens at ") and told[1]["said"].endswith(f"; {desk.GOES_ON}"), told[1]["said"])
+            card = opened.type("t sold")
+            same((card["state"], card["lines"]), ("lost", [f"{desk.WENT_AWAY}; the next entry connects again"]))
             with ImageServer(program, server.folder, "--workers", "1"):
                 load(server.path)
                 with actorimage.connect(server.path) as other:
@@ -151,5 +174,5 @@ def sessions_are_few(program):
 
 
 TRIALS = (
-    entries_are_done, a_long_turn_is_waited_for, a_server_that_ends_is_told, a_full_server_is_told, a_checkpoint_of_somebody_is_told, sessions_are_few,
+    entries_are_done, a_long_turn_is_waited_for, entries_that_wait_are_told, a_server_that_ends_is_told, a_full_server_is_told, a_checkpoint_of_somebody_is_told, sessions_are_few,
 )

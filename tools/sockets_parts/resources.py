@@ -46,6 +46,13 @@ def rests(server):
     return False
 
 
+def begin_endless(client, post):
+    """Begins a turn that does not end."""
+    client.make("M", [], ENDLESS)
+    client.send(post(client.actor("M"), "spin", [], 1, 1))
+    assert client.reply() == {"ok": {"turn": 1}}
+
+
 def sleeps(process, thread):
     """How often a thread of a process went to sleep."""
     with open(f"/proc/{process}/task/{thread}/status", encoding="ascii") as it:
@@ -65,6 +72,19 @@ def idle_workers_sleep(program, Server, _post):
     with Server(program, 1, 16) as server:
         until(lambda: len(threads(server)) == 17, "16 workers have no thread each")
         assert rests(server), "workers with nothing to do run"
+
+
+def others_sleep_beside_a_busy_worker(program, Server, post):
+    """Of four workers one takes the quanta of a turn that does not end. The others have nothing to do, and take no processor."""
+    with Server(program, 1, 4) as server:
+        with server.client() as client:
+            begin_endless(client, post)
+            time.sleep(0.5)
+            before, began = ticks(server), time.monotonic()
+            time.sleep(1)
+            run, lasted = ticks(server) - before, time.monotonic() - began
+            assert run < 1.3 * lasted * os.sysconf("SC_CLK_TCK"), f"{run} ticks in {lasted:.2f} seconds"
+        server.ended()
 
 
 def idle_sessions_sleep(program, Server, _post):
@@ -98,9 +118,7 @@ def a_post_wakes_one(program, Server, post):
 def a_turn_without_end_ends_with_the_server(program, Server, post):
     with Server(program, 1, 2) as server:
         with server.client() as client:
-            client.make("M", [], ENDLESS)
-            client.send(post(client.actor("M"), "spin", [], 1, 1))
-            assert client.reply() == {"ok": {"turn": 1}}
+            begin_endless(client, post)
         totals, names = server.ended()
         assert totals["posts"] == 1 and names == [], (totals, names)
 
@@ -306,6 +324,7 @@ def full_output(program, Server, _post):
 TRIALS = (
     each_worker_has_a_thread,
     idle_workers_sleep,
+    others_sleep_beside_a_busy_worker,
     idle_sessions_sleep,
     a_post_wakes_one,
     a_turn_without_end_ends_with_the_server,

@@ -228,8 +228,8 @@ actor 1, an Other
   a = nil
   b = nil
 mailbox: closed, 0 of 1 message
-turn 0: runs UndefinedObject >> +  in Twin
-  called by Twin >> step
+turn 0: runs UndefinedObject >> + true    Twin
+  called by Twin >> step    an Other, a nil, b nil; t an Object (object 1)
 1 further object; :inspect actor 1 1  shows object 1
 object 1 of actor 1, an Object
 actor 2, an Object

@@ -10,7 +10,7 @@ import threading
 from workspace_parts.breaks import Breaks
 from workspace_parts.images import ServedImage, WatchedImage
 from workspace_parts.reconnecting import Reconnecting
-from workspace_parts.served_turns import AGAIN
+from workspace_parts.served_turns import AGAIN, ANEW
 from workspace_parts.session import FULL, OFFER, Session
 from workspace_parts.socket_connection import SocketConnection
 from workspace_parts.wrong import Ended, Lost
@@ -129,6 +129,20 @@ def begins_again(program):
             session.end()
 
 
+def numbered_anew(program):
+    """Behind a new connection it is told that turns are numbered anew, unless the epoch is as it was."""
+    old, sites = '{"error":"Old","last":0}', '{"ok":{"sites":[]}}'
+    for epoch, wanted in (("7", []), ("8", [ANEW])):
+        first = [GREETED, NEWS, STATUS, '{"ok":{"answer":1}}', NEWS]
+        with pretended(first, [GREETED, STATUS.replace("7", epoch), old, NEWS, sites, NEWS]) as path:
+            told = []
+            session = Session(WatchedImage(path, 7), Breaks(), told.append)
+            session.do(":turn 1 of actor 0")
+            session.do(":stats A b")
+            same(told, ["turn 1 of actor 0 answers 1", BROKE.format(path), AGAIN, *wanted, "A >> b sends nothing"])
+            session.end()
+
+
 def kept_are_told(program):
     """How many faults a served image keeps is told once: to who connects, and behind the first entry on a new connection."""
     failed = [{"actor": it, "fault": "overflow", "step": 12 + it, "turn": 7} for it in (1, 2)]
@@ -229,6 +243,6 @@ def no_faults_are_told(program):
 
 
 TRIALS = (
-    begins_again, kept_are_told, nearly_full, history_is_full, faults_are_told, faults_are_listed, no_faults_are_told, no_server_replies,
-    too_many, once_more, perhaps_accepted,
+    begins_again, numbered_anew, kept_are_told, nearly_full, history_is_full, faults_are_told, faults_are_listed, no_faults_are_told,
+    no_server_replies, too_many, once_more, perhaps_accepted,
 )

@@ -200,4 +200,24 @@ def too_long(program):
     same(found.endswith("actor 0\n"), True)
 
 
-TRIALS = (endless, files, expected, why_not_expected, helped, copied_alone, lost_faults, interrupted, log, no_program, no_file, lost_program, too_long)
+def many_waiting(program):
+    """Of many actors that have something to do, only the first are looked into when a method is removed, and of these the first are named.
+    A list of actors is cut, and goes on from where it ended."""
+    busy = [line for _ in range(65) for line in ("t := Till actor", ":post t rest")]
+    lines = ["Till : Object", "Till >> rest  ^nil", "Till actor", *busy, ":remove Till rest"]
+    found = piped(program, lines).stdout.decode().splitlines()
+    first = ", ".join(f"actor {it}" for it in range(1, 11))
+    place = found.index("> :remove Till rest")
+    more = "more than 64 actors have something to do; the first 64 of them were looked into"
+    same(found[place + 1 : place + 3], [f"64 messages that wait ask for it: {first} and 54 others", more])
+    lines = ["Till : Object", *["t := Till actor"] * 102, ":actors Till", ":actors Till 100"]
+    found = piped(program, lines).stdout.decode().splitlines()
+    place = found.index("> :actors Till 100")
+    same(found[place - 1], "there are more; :actors Till 100  goes on")
+    same([it.split()[0] for it in found[place + 1 :]], ["actor", "100", "101"])
+
+
+TRIALS = (
+    endless, files, expected, why_not_expected, helped, copied_alone, lost_faults, interrupted, log, no_program, no_file, lost_program,
+    too_long, many_waiting,
+)

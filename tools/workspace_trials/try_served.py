@@ -10,9 +10,10 @@ import tempfile
 from trial_parts.patience import PATIENCE, until
 from workspace_parts.breaks import Breaks
 from workspace_parts.images import ServedImage
-from workspace_parts.served_turns import AGAIN, HAS_NOT, NEW
+from workspace_parts.served_turns import AGAIN, ANEW, HAS_NOT, NEW
 from workspace_parts.session import Session
 from workspace_parts.socket_connection import SocketConnection
+from workspace_parts.terminal import readline
 
 from .pretend import Terminal
 from .serving import Server
@@ -209,7 +210,7 @@ def lost_at_terminal(program):
             same(terminal.ask(COUNT[0]), "class Counter, version 1\n")
             server.end()
         with Server(program, folder, *WORKERS) as server:
-            same(terminal.ask(COUNT[0]), f"{BROKE}\n{AGAIN}\nclass Counter, version 1\n")
+            same(terminal.ask(COUNT[0]), f"{BROKE}\n{AGAIN}\n{ANEW}\nclass Counter, version 1\n")
             terminal.ask(COUNT[1])
             terminal.ask("c := Counter actor")
             same(terminal.ask("c bump. c bump"), "2\n")
@@ -221,7 +222,7 @@ def lost_at_terminal(program):
             same(terminal.see("> "), "not sent: c bump\n> ")
         with Server(program, folder, *WORKERS):
             terminal.type(COUNT[0] + "\n")
-            terminal.see(f"{NEW.format(7)}\n{LOST.format('bump, Counter >> spin', 'them')}\nclass Counter, version 1\n> ")
+            terminal.see(f"{NEW.format(7)}\n{ANEW}\n{LOST.format('bump, Counter >> spin', 'them')}\nclass Counter, version 1\n> ")
             same(terminal.end(), 0)
 
 
@@ -237,6 +238,31 @@ def told_at_enter(program):
         same(terminal.end(), 0)
 
 
+def completed(program):
+    """Tab completes what the image has, in a session in which nothing was typed yet, and what is known where no server is."""
+    if not readline:
+        return
+    with tempfile.TemporaryDirectory() as folder, Server(program, folder, *WORKERS) as server:
+        typed(folder, [*COUNT, "Counter >> bumpTwice  ^nil", "c := Counter actor", "Counter removeSelector: #bumpTwice"])
+        with Watching(folder) as terminal:
+            for keys, line in ((":sen\tbu\t", ":senders bump"), (":ref\tCou\t", ":references Counter"), (":ref\tcou\t", ":references count")):
+                terminal.type(keys + "\n")
+                terminal.see(line + "\n")
+                terminal.see("\n> ")
+            terminal.type("c := Cou\t ac\t\n")
+            terminal.see("c := Counter actor\nactor 1\n> ")
+            terminal.type("c bu\t\n")
+            terminal.see("c bump\n1\n> ")
+            typed(folder, ["Counter >> later  ^7"])
+            terminal.type("c la\t\n")
+            terminal.see("c later\n7\n> ")
+            server.end()
+            terminal.type(":actors run\t\n")
+            terminal.see(f":actors running\n{BROKE}\n{NOTHING}; the next entry tries again\n> ")
+            terminal.type(":actors run\t\n")
+            terminal.see(f":actors running\n{NOTHING}; the next entry tries again\n> ")
+
+
 def older_image(program):
     """A server is started again on the image that was saved last: messages from after it are lost, and that is told."""
     with tempfile.TemporaryDirectory() as folder:
@@ -250,7 +276,7 @@ def older_image(program):
             server.end()
             same(terminal.ask("c bump"), f"{BROKE}\n{NOTHING} --image image; the next entry tries again\n")
             with Server(program, folder, *kept):
-                same(terminal.ask("c bump"), f"{HAS_NOT.format(7, 2, 4)}\n3\n")
+                same(terminal.ask("c bump"), f"{HAS_NOT.format(7, 2, 4)}\n{ANEW}\n3\n")
                 same(terminal.ask("c bump"), "4\n")
                 same(terminal.end(), 0)
 
@@ -376,7 +402,7 @@ def told_by_source(program):
 
 
 TRIALS = (
-    two_workspaces, stopped_waiting, next_number, same_sender, loaded_again, no_server, lost_server, lost_at_terminal, told_at_enter,
+    two_workspaces, stopped_waiting, next_number, same_sender, loaded_again, no_server, lost_server, lost_at_terminal, told_at_enter, completed,
     older_image, kept_is_not_lost, sources_of_session, removed_behind_connection, written_again,
     told_by_source,
 )

@@ -112,6 +112,29 @@ def whole_methods(program):
         same(terminal.ask("c bump"), "8\n")
 
 
+def later_lines(program):
+    """A method whose first line alone would do is written when it is whole, where the line ends so that more comes. Else a line that begins
+    with blanks goes on with it, and what is typed then takes its place, in the history too."""
+    with Typing(program) as terminal:
+        typed(terminal, ["C : Object"])
+        type_lines(terminal, ["C >> one  | a | a := 3.", "a := a + 1.", "^a", ""])
+        typed(terminal, ["c := C actor"])
+        same(terminal.ask("c one"), "4\n")
+        same(terminal.ask("D : Object"), "class D, version 3\n")
+        typed(terminal, ["C >> two  ^true & false"])
+        type_lines(terminal, ["    ifTrue: [1]", "ifFalse: [2]", ""])
+        same(terminal.ask("c two"), "2\n")
+        same(terminal.ask("C >> three  ^3."), "")
+        same(terminal.ask("c three"), "3\n")
+        if not readline or "libedit" in readline.__doc__:
+            return
+        # The first line by itself was a version of its own, and the whole is one more each time it is written.
+        terminal.type("\x1b[A" * 4 + "\n")
+        terminal.see("ifFalse: [2]\n")
+        terminal.see("> ")
+        same(terminal.ask("E : Object"), "class E, version 8\n")
+
+
 def slips(program):
     """A block with a parameter, and a comment that is not closed, are told of at once, and the next entry is one of its own."""
     with Typing(program) as terminal:
@@ -214,4 +237,4 @@ def lives(number):
         return False
 
 
-TRIALS = (session, keys, whole_methods, slips, pasted, long_run, broken_line, slow_start)
+TRIALS = (session, keys, whole_methods, later_lines, slips, pasted, long_run, broken_line, slow_start)

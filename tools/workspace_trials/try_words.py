@@ -9,6 +9,7 @@ from workspace_parts.commands import COMMANDS
 from workspace_parts.cutting import entries
 from workspace_parts.in_general import IN_GENERAL
 from workspace_parts.known import Known
+from workspace_parts.status import NAMES
 from workspace_parts.terminal import candidates, read_entry
 from workspace_parts.turns import HISTORY
 
@@ -67,8 +68,9 @@ def served(program):
 
 
 def limits(program):
-    """The history is as long as the documents say."""
-    same(f"| items of the history | {HISTORY:,} |" in document("LIMITS.md"), True)
+    """There are as many items of a history, and names, as the documents say."""
+    for limit in (f"| items of the history | {HISTORY:,} |", f"including the kernel's 22 | {NAMES:,} |"):
+        same((limit, limit in document("LIMITS.md")), (limit, True))
 
 
 def completion(program):
@@ -81,7 +83,7 @@ def completion(program):
     known.names = {"c": {"ref": 0}, "s": {"ref": 1}, "n": 3}
     known.actor(0).class_name, known.actor(1).class_name = "Counter", "Stepper"
     for before, text, wanted in (
-        ("", ":st", [":step ", ":stats "]),
+        ("", ":st", [":step ", ":status ", ":stats "]),
         ("", "Cou", ["Counter"]),
         ("c ", "b", ["bump", "by:"]),
         ("c bump. s ", "b", ["bounce", "bump", "by:"]),
@@ -93,6 +95,15 @@ def completion(program):
         (":stats ", "St", ["Stepper"]),
         (":remove Counter ", "by", ["by:"]),
         (":post c ", "bu", ["bump"]),
+        (":senders ", "b", ["bounce", "bump", "by:"]),
+        (":senders ", "ifT", ["ifTrue:", "ifTrue:ifFalse:"]),
+        (":implementors ", "ne", ["new", "newActor"]),
+        (":references ", "Co", ["Counter"]),
+        (":references ", "co", ["count"]),
+        (":references count ", "", ["of"]),
+        (":references count of ", "St", ["Stepper"]),
+        (":actors ", "Co", ["Counter"]),
+        (":actors Counter ", "f", ["failed"]),
         (":close ", "", ["c", "s", "n"]),
         (":load ", os.path.join(TOP, "cra"), [os.path.join(TOP, "crates/"), os.path.join(TOP, "crates.txt")]),
         (":load ", "/no/such/", []),
@@ -109,6 +120,15 @@ def several_lines(program):
         (["C >> m | a |", "  a := 3.", "^a", ""], "C >> m | a |\n  a := 3.\n  ^a"),
         (["C >> m  [true] whileTrue: [", "nil]. ", "^3", ""], "C >> m  [true] whileTrue: [\n  nil]. \n  ^3"),
         (["C >> m  ^(3 +", ""], "C >> m  ^(3 +"),
+        (["C >> m  a := 3.", "^a", ""], "C >> m  a := 3.\n  ^a"),
+        (["C >> m  ^a +", "3", ""], "C >> m  ^a +\n  3"),
+        (["C >> m  self a;", "b", ""], "C >> m  self a;\n  b"),
+        (["C >> m  ^3."], "C >> m  ^3."),
+        (["C >> m  a foo. ^a and: [b. c]."], "C >> m  a foo. ^a and: [b. c]."),
+        (["C >> m  a := [^3]. b.", "c", ""], "C >> m  a := [^3]. b.\n  c"),
+        (["C >> at:put:"], "C >> at:put:"),
+        (["C >> at: x put:"], "C >> at: x put:"),
+        (["c bump."], "c bump."),
         (["c say: (c", "bump)"], "c say: (c\n  bump)"),
         (['"a', 'b" c bump'], '"a\n  b" c bump'),
         (["C >> m", "^3", None], "C >> m\n  ^3"),
@@ -118,6 +138,23 @@ def several_lines(program):
     ):
         left = list(lines)
         same((read_entry(lambda prompt: read_one(left)), left), (wanted, []))
+
+
+def later_lines(program):
+    """At a terminal a line that begins with blanks goes on with a method in one line before it, and with nothing else."""
+    for before, lines, wanted in (
+        ("C >> m  ^a > 0", ["    ifTrue: [3]", ""], "C >> m  ^a > 0\n    ifTrue: [3]"),
+        ("C >> m  a bump", ["  . a bump.", "^a", ""], "C >> m  a bump\n  . a bump.\n  ^a"),
+        ("C >> m  ^3", ["\t+ 4", None], "C >> m  ^3\n\t+ 4"),
+        ("C >> m  ^3", [" c bump"], " c bump"),
+        ("C >> m  ^3", ["   "], "   "),
+        ("C >> m\n  ^3", ["  c bump"], "  c bump"),
+        ("c bump", ["  c bump"], "  c bump"),
+        (":classes", ["  c bump"], "  c bump"),
+        ("", ["  c bump"], "  c bump"),
+    ):
+        left = list(lines)
+        same((read_entry(lambda prompt: read_one(left), before), left), (wanted, []))
 
 
 def read_one(lines):
@@ -148,4 +185,4 @@ def cut(program):
         same([entry.text for entry in entries(text.split("\n"))], wanted)
 
 
-TRIALS = (all_refusals, served, limits, completion, several_lines, cut)
+TRIALS = (all_refusals, served, limits, completion, several_lines, later_lines, cut)

@@ -15,6 +15,9 @@ use st_server::recovering::recover;
 use std::alloc::Global;
 use std::fs::{File, Files};
 
+/// A journal with so many bytes or more takes a moment to be done again, or some seconds.
+const MUCH: usize = 1_000_000;
+
 /// The refusal of a journal's line, by its number, from 1. The first line is the header.
 pub fn refused_line(alloc: Global, path: &str, refused: RefusedLine) -> Failure {
     let number = refused.place.saturating_add(2);
@@ -36,8 +39,24 @@ pub fn refused_line(alloc: Global, path: &str, refused: RefusedLine) -> Failure 
     }
 }
 
+/// Says that a long journal is done again.
+fn tell_again<R: Eprint>(rt: &R, found: &Found) {
+    let bytes = found.text().len();
+    if bytes >= MUCH {
+        let path = found.journal.path();
+        let megabytes = bytes / MUCH;
+        let _ = eprintln!(rt; "actorimage: doing {path} again, {megabytes} MB");
+    }
+}
+
 /// An image comes back to what it was, by what its journal tells.
-fn recovered(alloc: Global, image: Image, found: Found) -> Result<(Image, Journal), Failure> {
+fn recovered<R: Eprint>(
+    rt: &R,
+    alloc: Global,
+    image: Image,
+    found: Found,
+) -> Result<(Image, Journal), Failure> {
+    tell_again(rt, &found);
     match recover(alloc, image, found.text()) {
         Ok(image) => Ok((image, found.journal)),
         Err(refused) => Err(refused_line(alloc, found.journal.path(), refused)),
@@ -77,7 +96,7 @@ fn first_digest<R: Files<File = File>>(
 }
 
 /// Begins or goes on with the journal of an image, which comes back to what it was. An image that is in no file is saved first.
-fn with_journal<'a, R: Files<File = File>>(
+fn with_journal<'a, R: Files<File = File> + Eprint>(
     rt: &R,
     alloc: Global,
     place: &str,
@@ -94,7 +113,7 @@ fn with_journal<'a, R: Files<File = File>>(
         Err(failure) => Err(failure),
     };
     let recovered = match found {
-        Ok(found) => recovered(alloc, image, found),
+        Ok(found) => recovered(rt, alloc, image, found),
         Err(failure) => {
             drop(image);
             Err(failure)
@@ -134,7 +153,7 @@ fn found_at<R: Files>(
 }
 
 /// The image with which a run begins, and what keeps it in the file that was opened. The new file beside that is held, if there is one.
-pub fn begin_keeping<'a, R: Files<File = File>>(
+pub fn begin_keeping<'a, R: Files<File = File> + Eprint>(
     rt: &R,
     program: &'a HostRuntime,
     alloc: Global,

@@ -109,7 +109,7 @@ fn hold_at<R: Files<File = File>>(
 
 /// Takes hold of an image's file, and loads the image. The new file beside the file is held from before the file is opened: if that is
 /// refused, nothing begins.
-fn begin_held<'a, R: Files<File = File> + AllocGlobal>(
+fn begin_held<'a, R: Files<File = File> + Eprint + AllocGlobal>(
     rt: &R,
     program: &'a HostRuntime,
     keeping: Keeping<'a>,
@@ -242,7 +242,7 @@ fn script<R: Input + Print + Files<File = File> + Clock + AllocGlobal>(
 
 /// Runs a script on the image of a file as its journal tells it, and goes on with the journal. When the session has ended well, the file
 /// gets the image and the journal is removed; else both stay.
-fn script_with_journal<R: Input + Print + Files<File = File> + Clock + AllocGlobal>(
+fn script_with_journal<R: Input + Print + Eprint + Files<File = File> + Clock + AllocGlobal>(
     rt: &R,
     program: &HostRuntime,
     options: ScriptOptions<'_>,

@@ -5,13 +5,11 @@ use Rattle.st_classes.specs.EditLists.{Begins}
 use Rattle.st_image.specs.Images.{ImageView, world}
 use Rattle.st_image.specs.Commits.{changed_at}
 use Rattle.st_image.specs.GoingOn.{GoesOnIn}
+use Rattle.st_image.proofs.Following.{begins_same, begins_then}
 use Rattle.st_image.proofs.KnownBodies.{last_as_before}
 
-pub begins_then : (es fs gs : List Edit) → Begins es fs → Begins fs gs → Begins es gs
-begins_then es fs gs (more, h) (rest, k) = (more ++ rest, k ∙ ap (λ (l : List Edit). l ++ rest) h ∙ append_assoc es more rest)
-
 pub goes_same : (i : ImageView) → GoesOnIn i i
-goes_same i = record { edits = ([], sym (append-nil (world i).edits)); bodies = last_as_before i i refl refl refl }
+goes_same i = record { edits = begins_same (world i).edits; bodies = last_as_before i i refl refl refl }
 
 pub goes_by : (i j : ImageView) → i ≡ j → GoesOnIn i j
 goes_by i j e = subst (GoesOnIn i) e (goes_same i)

@@ -47,6 +47,7 @@ pub mod CountingChanges
 pub mod CountingItems
 pub mod MakingRoom
 pub mod KnownBodies
+pub mod Following
 pub mod Committing
 pub mod FailingCommits
 pub mod GrowingEdits

@@ -4,6 +4,7 @@ mod AlikeWorlds
 mod EntriesRead
 mod FileChanges
 mod Found
+mod Grown
 mod GoingOn
 mod Installed
 mod LaterTables

@@ -1,15 +1,18 @@
 -- A message that begins, and steps that are committed, are appended alone.
-use Rattle.std.proofs.Common.{◌≡◌, ◌≢◌, ◌<◌, ℕ, [], ◌∷◌, List, Bool, true, false, slice_get, refl, sym, ap, subst, ◌∙◌, arith}
+use Rattle.std.proofs.Common.{◌≡◌, ◌≢◌, ◌<◌, ℕ, [], ◌∷◌, List, Bool, true, false, Ok, slice_get, refl, sym, ap, subst, ◌∙◌, arith}
 use Rattle.std.specs.Prelude.{if◌then◌else◌, ◌==◌}
 use Rattle.std.proofs.lemmas.Bool.Decides.{nat_tests}
 use Rattle.st_classes.specs.declared.values.ActorId.{ActorId}
-use Rattle.st_turn.specs.Claims.{ClaimView}
+use Rattle.st_turn.specs.Claims.{BeganAs, ClaimView}
 use Rattle.st_image.specs.declared.items.Item.{Item}
 use Rattle.st_image.specs.declared.items.Item.TheVariants.{Begun, Ran}
 use Rattle.st_image.specs.ClaimsOut.{one_less, one_more}
-use Rattle.st_image.specs.Commits.{CountsOut, HasCheckedOut, HasCommitted, IsReleased, after_checkout, idle_at, items_of, out_at, steps_of, with_out}
+use Rattle.st_image.specs.Commits.{ChecksOut, CountsOut, HasCheckedOut, HasCommitted, IsReleased, after_checkout, idle_at, items_of, out_at, steps_of, with_out}
 use Rattle.st_image.specs.Images.{ImageView, Standing, appended, world}
+use Rattle.st_image.specs.GoingOn.{FitsClaim}
 use Rattle.st_image.specs.WorldInvariant.{IsLawful}
+use Rattle.st_image.proofs.CallsLater.{checks_out_fits, checks_out_later}
+use Rattle.st_image.proofs.Following.{fits_claim_as}
 use Rattle.st_journal.specs.declared.entries.Entry.TheVariants as entry
 use Rattle.st_journal.specs.Entries.{Does, KeepsBeside, SameOut}
 use Rattle.st_journal.proofs.Replayed.{does_beside}
@@ -83,6 +86,10 @@ items_are c a n of_a takes some =
     ap (λ (b : Bool). if b then [] else Ran c.actor (steps_of c) ∷ []) shut
     ∙ ap (λ (x : ActorId). Ran x (steps_of c) ∷ []) of_a
     ∙ ap (λ (k : ℕ). Ran a k ∷ []) takes
+
+-- what became of a claim that was checked out fits the image
+pub ran_fits : (i j : ImageView) (a : ActorId) (c d : ClaimView) → IsLawful i → IsLawful j → ChecksOut i a (Ok c) j → BeganAs c d → FitsClaim j d
+ran_fits i j a c d before behind checked began = fits_claim_as j c d began (checks_out_fits i j a (Ok c) checked (checks_out_later i j a (Ok c) before behind checked))
 
 -- a checkout of an actor in a turn, and a commit of its claim
 pub ran_alone : (i j k : ImageView) (a : ActorId) (c : ClaimView) (n : ℕ) (r : ℕ) → idle_at (slice_get (world i).actors a.0) ≡ false → j ≡ with_out (after_checkout i a) j

@@ -6,28 +6,18 @@ use Rattle.st_classes.specs.EditLists.{Begins}
 use Rattle.st_guard.specs.Moves.{CachesView}
 use Rattle.st_turn.specs.Claims.{BeganAs, ClaimView}
 use Rattle.st_image.specs.Images.{ImageView, world}
-use Rattle.st_image.proofs.KnownBodies.{knows_as, knows_later}
+use Rattle.st_image.proofs.Following.{fits_claim_as, fits_claim_later, kept_later}
 use Rattle.st_image.specs.GoingOn.{FitsClaim, GoesOnIn}
 use Rattle.st_pool.specs.Seen.{Ends, Fits, Follows, MayFollow, Precedes}
-use Rattle.st_calls.proofs.GoingThen.{begins_then, goes_same}
+use Rattle.st_calls.proofs.GoingThen.{goes_same}
 use Rattle.st_pool.proofs.Fronts.{carries, follows_later, follows_leads}
-
-pub fits_later : (i j : ImageView) (c : ClaimView) → GoesOnIn i j → FitsClaim i c → FitsClaim j c
-fits_later i j c on h = record {
-  edits = begins_then c.edits (world i).edits (world j).edits h.edits on.edits;
-  body = knows_later i j c on.bodies h.body;
-}
 
 -- a claim that was handed out fits the image later
 pub claim_known : (o p : Option (List ImageView)) (c : ClaimView) (j : ImageView) → Precedes o p → IfSome o (λ l. Fits l c) → IfSome p (λ l. MayFollow l j) → FitsClaim j c
 claim_known o p c j h fits may =
     let f : Fits h.begun c = subst (λ (x : Option (List ImageView)). IfSome x (λ l. Fits l c)) h.first_is fits in
     let m : MayFollow h.all j = subst (λ (x : Option (List ImageView)). IfSome x (λ l. MayFollow l j)) h.later_is may in
-    fits_later f.image j c (carries h.begun h.all f.image j h.along h.prefix f.ends (follows_leads h.begun h.all f.image j h.prefix f.ends m)) f.fits
-
-list_later : (o : Option (List Edit)) (fs gs : List Edit) → Begins fs gs → IfSome o (λ k. Begins k fs) → IfSome o (λ k. Begins k gs)
-list_later None fs gs b h = tt
-list_later (Some k) fs gs b h = begins_then k fs gs h b
+    fits_claim_later f.image j c (carries h.begun h.all f.image j h.along h.prefix f.ends (follows_leads h.begun h.all f.image j h.prefix f.ends m)) f.fits
 
 -- what a worker's caches keep begins the edits of a claim that was handed out later
 pub hand_known : {G : Type 0} (o p : Option (List ImageView)) (v : CachesView G) (c : ClaimView) → Precedes o p → IfSome o (λ l. Follows l v) → IfSome p (λ l. Fits l c) → IfSome v.kept (λ k. Begins k c.edits)
@@ -35,16 +25,13 @@ hand_known {G} o p v c h follows fits =
     let f : Follows h.begun v = subst (λ (x : Option (List ImageView)). IfSome x (λ l. Follows l v)) h.first_is follows in
     let g : Fits h.all c = subst (λ (x : Option (List ImageView)). IfSome x (λ l. Fits l c)) h.later_is fits in
     let on : GoesOnIn f.image g.image = carries h.begun h.all f.image g.image h.along h.prefix f.ends (g.image, g.ends, goes_same g.image) in
-    subst (λ (es : List Edit). IfSome v.kept (λ k. Begins k es)) (sym g.edits) (list_later v.kept (world f.image).edits (world g.image).edits on.edits f.kept)
+    subst (λ (es : List Edit). IfSome v.kept (λ k. Begins k es)) (sym g.edits) (kept_later v (world f.image).edits (world g.image).edits on.edits f.kept)
 
 one_fits_as : (l : List ImageView) (c d : ClaimView) → BeganAs c d → Fits l c → Fits l d
 one_fits_as l c d b f = record {
   image = f.image;
   ends = f.ends;
-  fits = record {
-    edits = subst (λ (es : List Edit). Begins es (world f.image).edits) (sym b.edits) f.fits.edits;
-    body = knows_as f.image c d b f.fits.body;
-  };
+  fits = fits_claim_as f.image c d b f.fits;
   edits = b.edits ∙ f.edits;
 }
 

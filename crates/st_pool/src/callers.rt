@@ -63,7 +63,7 @@ impl<'a, K: Naming, M: Mailbox> Caller<'a, K, M> {
     }
 
     /// Does something in one hold of the lock. The image is lawful then and has at least what this caller has done. If something has
-    /// moved in the hold, one worker that sleeps is woken, and one that rests.
+    /// moved in the hold, one worker that sleeps is woken, and one that rests; none is if one looks for what moves, who finds it.
     pub fn hold<R: Wait, J: Job<K, M>>(&mut self, rt: &R, alloc: Global, job: J) -> J::Out
         ensures { (o : OfficeView) × (p : OfficeView) × Finds K.start K.first self.old o × J.done job o self.old result p self.new }
     {
@@ -100,10 +100,10 @@ impl<'a, K: Naming, M: Mailbox> Caller<'a, K, M> {
         office.audit(share);
         let moves = office.moves();
         let out = job.run(alloc, &mut office, share);
-        let has_moved = office.moves() != moves;
+        let wakes = office.wakes_past(moves);
         let has_news = office.take_news();
         drop(office);
-        shared.wake_if(has_moved);
+        shared.wake_if(wakes);
         shared.tell_if(has_news);
         out
     }

@@ -36,6 +36,10 @@ const LONG_PAUSES: usize = 16;
 /// sooner than a thread that sleeps would be woken.
 const LOOKS_FOR_END: u32 = 32;
 
+/// How often a worker that found nothing looks, at long intervals, whether there is something now before it sleeps. The next message of a
+/// client who waits for each reply comes sooner than a thread that sleeps would be woken.
+const LOOKS_FOR_WORK: u32 = 48;
+
 /// Lets some time pass.
 #[inline]
 fn pause(count: usize) {
@@ -157,6 +161,31 @@ impl<K: Naming, M: Mailbox> Shared<K, M> {
             .wait_timeout_while(rt, before, most, |office| !condition.holds(office));
         behind.waiting.end_watch();
         behind
+    }
+
+    /// Looks some times whether something has moved since for which an actor is ready, or the workers are to end. The answer is none if so;
+    /// else what was seen by then, beyond which a move wakes. One worker at a time looks.
+    pub(crate) fn look_past<R: Wait>(&self, rt: &R, seen: u64) -> Option<u64> {
+        if !self.enter(rt).waiting.begin_look(seen) {
+            return Some(seen);
+        }
+        let mut seen = seen;
+        for _ in 0..LOOKS_FOR_WORK {
+            pause(LONG_PAUSES);
+            if let Some(mut office) = self.office.try_lock() {
+                if office.has_work_past(seen) {
+                    office.waiting.end_look();
+                    return None;
+                }
+                seen = office.moves();
+            }
+        }
+        let mut office = self.enter(rt);
+        office.waiting.end_look();
+        if office.has_work_past(seen) {
+            return None;
+        }
+        Some(office.moves())
     }
 
     /// A turn has ended, or the turns have been numbered anew, if so: the callers that wait look again.

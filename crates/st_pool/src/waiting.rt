@@ -1,8 +1,9 @@
 //! Workers and callers that wait: how many there are, and by what each knows whether to go on.
 //!
-//! A worker sleeps while nothing can be done, until something has moved. It rests while it would be in the way of others, until
-//! something other than short quanta has moved. While memory or room in the history is wanting, each call of a caller is a move, since no
-//! clause says which of them gives some back. A caller waits for the end of a turn, or of all turns that are numbered from one base.
+//! A worker sleeps while nothing can be done, until something has moved; before it sleeps, it looks for some time, if no other one does. It
+//! rests while it would be in the way of others, until something other than short quanta has moved. While memory or room in the history is
+//! wanting, each call of a caller is a move, since no clause says which of them gives some back. A caller waits for the end of a turn, or of
+//! all turns that are numbered from one base.
 
 /// How many workers and callers wait, and what has happened that they wait for.
 #[derive(Drop)]
@@ -18,6 +19,8 @@ pub(crate) struct Waiting {
     /// Whether memory or room in the history was wanting since a worker looked last.
     is_wanting: bool,
     is_stopped: bool,
+    /// Whether a worker that found nothing looks before it sleeps, and no call has moved anything since it began.
+    has_looker: bool,
     /// How many callers wait for the end of a turn.
     watchers: u32,
     /// Whether a turn has ended since they were told, or the turns have been numbered anew.
@@ -34,6 +37,7 @@ impl Waiting {
             resting: 0,
             is_wanting: false,
             is_stopped: false,
+            has_looker: false,
             watchers: 0,
             has_news: false,
         }
@@ -107,6 +111,33 @@ impl Waiting {
     /// Whether nothing has moved since, and the workers are to go on.
     pub(crate) fn is_still(&self, seen: u64) -> bool {
         self.moves == seen && !self.is_stopped
+    }
+
+    /// A worker that found nothing looks before it sleeps, if the answer says so: not where another one does, nor where something has moved
+    /// since.
+    pub(crate) fn begin_look(&mut self, seen: u64) -> bool {
+        let looks = !self.has_looker && self.is_still(seen);
+        self.has_looker = self.has_looker || looks;
+        looks
+    }
+
+    /// The worker that looked goes on, or is about to sleep.
+    pub(crate) fn end_look(&mut self) {
+        self.has_looker = false;
+    }
+
+    /// Whether a worker looks that is free for what moves next.
+    #[inline]
+    pub(crate) fn has_looker(&self) -> bool {
+        self.has_looker
+    }
+
+    /// The same, for who has moved something: the worker that looks finds it, and is not free for what moves behind it.
+    #[inline]
+    pub(crate) fn take_looker(&mut self) -> bool {
+        let had_looker = self.has_looker;
+        self.has_looker = false;
+        had_looker
     }
 
     /// Whether a worker may be asleep.

@@ -45,8 +45,12 @@ impl Gate for OpenGate {
     fn after(&mut self, _worker: u32) {}
 }
 
-/// Waits until something has moved, or the workers are to end.
+/// Waits until something has moved, or the workers are to end. It looks some times before it sleeps, and then sleeps on though something
+/// has moved meanwhile, if no actor is ready.
 fn wait_past<K: Naming, M: Mailbox, R: Wait>(rt: &R, shared: &Shared<K, M>, seen: u64) {
+    let Some(seen) = shared.look_past(rt, seen) else {
+        return;
+    };
     let mut before = shared.enter(rt);
     before.waiting.lie_down();
     let mut behind = shared
@@ -239,7 +243,8 @@ fn take_quanta_until_stop<G: Guard, K: Naming, M: Mailbox, T: Gate, R: Wait>(
 /// A claim that is refused by `Stale` or `Changed` is dropped, and the worker goes on. If nothing is ready, memory ran out or the
 /// history is full, it sleeps until another call may have changed that: an accepted post, an edit, a new actor or a close (refused
 /// ones too), a checkpoint, a commit of steps after which another actor is ready, or the stop; and, if memory ran out or the history is
-/// full, any call that is made of the image, refused ones too. `outcome`, `stats` and `look` wake nobody.
+/// full, any call that is made of the image, refused ones too. `outcome`, `stats` and `look` wake nobody. Before it sleeps it looks some
+/// times, if no other worker does.
 ///
 /// A worker whose quanta are short and that often finds the lock held rests while another worker is awake, although actors are ready.
 /// One whose quanta are long and that finds it held takes up to four claims at a time, lets one after the other take its quantum, and

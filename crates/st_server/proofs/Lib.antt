@@ -1,6 +1,5 @@
 pub mod Names
 pub mod Reports
-pub mod Growing
 pub mod Keeping
 pub mod Claims
 pub mod SomeSteps

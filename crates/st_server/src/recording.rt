@@ -16,8 +16,8 @@ use st_pool::shared::Shared;
 use std::alloc::{AllocError, Global};
 use std::sync::atomic::{AtomicU64, Ordering};
 use std::sync::{Condvar, CondvarTimeouts, Mutex, MutexGuard, Wait};
-use std::thread::{sleep, yield_now};
-use std::time::{Clock, Duration};
+use std::thread::yield_now;
+use std::time::{Clock, Duration, Instant};
 
 /// How many items are copied in a hold at most, so that it is short.
 const MOST_READ: usize = 128;
@@ -42,14 +42,29 @@ const PAUSE_BEHIND_REPLIES: u32 = 1000;
 const SAVING_PAUSE: u32 = 100;
 
 /// How often a session whose replies wait looks whether a round that serves it has ended, or whether it can make one itself. Between the
-/// first looks other threads may run, and between the others the session sleeps for a moment: to be woken by the one before it, as those
-/// are that wait for a lock, takes longer than many disks.
-const LOOKS: u32 = 192;
+/// first looks other threads may run, and between the others the session sleeps until a round has ended: to be woken by the one before
+/// it, as those are that wait for a lock, takes longer than many disks.
+const LOOKS_AWAKE: u32 = 64;
 
-const LOOKS_AWAKE: u32 = 128;
+const LOOKS_BETWEEN_SLEEPS: u32 = 128;
 
-/// For how long it sleeps between two looks, in microseconds.
-const MOMENT: u64 = 200;
+/// For how long it sleeps between two looks at most, in milliseconds.
+const MOMENT: u64 = 1;
+
+/// How often who makes a round looks first whether as many sessions wait as the last round served. Between two looks other threads may run.
+const LOOKS_FOR_OTHERS: u32 = 96;
+
+/// For how long it does so at most, in microseconds.
+const GATHERING: u64 = 200;
+
+/// Whether who gathers others has done so for long.
+fn has_passed<R: Clock>(rt: &R, began: &Option<Instant>) -> bool {
+    let most = Duration::from_micros(GATHERING);
+    match (began, Instant::now(rt)) {
+        (Some(began), Ok(now)) => now.saturating_duration_since(*began) > most,
+        _ => true,
+    }
+}
 
 /// Why an image is not copied or saved: there was no memory, or the journal could not be written, whatever was in the way.
 fn as_fault(refusal: Refusal) -> Refusal
@@ -70,6 +85,13 @@ pub struct Recorder<'a, K: Naming, S: Keeper> {
     rounds: AtomicU64,
     /// The number of the last round that has ended, and has written all that had happened when it began.
     ended: AtomicU64,
+    /// How many sessions have come to wait since the last round of a session began.
+    arrived: AtomicU64,
+    /// How many had come by then since the one before.
+    served: AtomicU64,
+    /// How many rounds of sessions have ended, and a sign for those who sleep until one has.
+    round_ends: Mutex<u64>,
+    round_ended: Condvar,
     progress: Mutex<Progress>,
     is_ended: Mutex<bool>,
     ending: Condvar,
@@ -90,6 +112,10 @@ impl<'a, K: Naming, S: Keeper> Recorder<'a, K, S> {
             keeper,
             rounds: AtomicU64::new(0),
             ended: AtomicU64::new(0),
+            arrived: AtomicU64::new(0),
+            served: AtomicU64::new(0),
+            round_ends: Mutex::new(0),
+            round_ended: Condvar::new(),
             progress: Mutex::new(Progress::new(alloc, names, items, steps)),
             is_ended: Mutex::new(false),
             ending: Condvar::new(),
@@ -188,43 +214,100 @@ impl<'a, K: Naming, S: Keeper> Recorder<'a, K, S> {
         self.ended.load(Ordering::SeqCst) > begun
     }
 
-    /// A round, unless one has ended that began when so many rounds had begun before it, or more.
-    fn round_unless_ended<R: Wait>(
+    /// Lets sessions come first, as many as the last round served: they are back soon, mostly, and then one round serves them all. It waits
+    /// for no more than a moment, nor if the clock cannot be read.
+    fn gather<R: Clock>(&self, rt: &R) {
+        let served = self.served.load(Ordering::SeqCst);
+        let began = Instant::now(rt).ok();
+        for _ in 0..LOOKS_FOR_OTHERS {
+            if self.arrived.load(Ordering::SeqCst) >= served || has_passed(rt, &began) {
+                break;
+            }
+            yield_now();
+        }
+        let arrived = self.arrived.swap(0, Ordering::SeqCst);
+        self.served.store(arrived, Ordering::SeqCst);
+    }
+
+    /// A round of a session, for all that wait, unless one has ended that serves it.
+    fn round_for_all<R: Wait + Clock>(
         &self,
         rt: &R,
         alloc: Global,
         begun: u64,
-        progress: &mut Progress,
+        mut progress: MutexGuard<'_, Progress>,
     ) -> Result<(), Refusal> {
         if self.has_ended_since(begun) {
             return Ok(());
         }
-        self.round(rt, alloc, progress)
+        self.gather(rt);
+        let made = self.round(rt, alloc, &mut progress);
+        drop(progress);
+        let mut ends = self.round_ends.lock(rt);
+        *ends = ends.wrapping_add(1);
+        drop(ends);
+        self.round_ended.notify_all();
+        made
     }
 
-    /// Waits until all that has happened until now is on the disk, if replies wait for that. Sessions that wait together share a round,
-    /// which one of them makes.
+    /// The same where nobody else goes on with the journal; else none, if no round has ended that serves it.
+    fn try_round<R: Wait + Clock>(
+        &self,
+        rt: &R,
+        alloc: Global,
+        begun: u64,
+    ) -> Option<Result<(), Refusal>> {
+        if self.has_ended_since(begun) {
+            return Some(Ok(()));
+        }
+        match self.progress.try_lock() {
+            Some(progress) => Some(self.round_for_all(rt, alloc, begun, progress)),
+            None => None,
+        }
+    }
+
+    /// How many rounds of sessions have ended.
+    fn ends<R: Wait>(&self, rt: &R) -> u64 {
+        *self.round_ends.lock(rt)
+    }
+
+    /// Sleeps until one more has ended, or for a moment.
+    fn sleep_past<R: Wait + Clock>(&self, rt: &R, seen: u64) {
+        let before = self.round_ends.lock(rt);
+        let most = Duration::from_millis(MOMENT);
+        let _ = self
+            .round_ended
+            .wait_timeout_while(rt, before, most, |ends| *ends == seen);
+    }
+
+    /// Waits until a round has ended that began by now or later. Sessions that wait together share one, which one of them makes.
+    fn wait_for_round<R: Wait + Clock>(&self, rt: &R, alloc: Global) -> Result<(), Refusal> {
+        let begun = self.rounds.load(Ordering::SeqCst);
+        for _ in 0..LOOKS_AWAKE {
+            if let Some(reached) = self.try_round(rt, alloc, begun) {
+                return reached;
+            }
+            yield_now();
+        }
+        for _ in 0..LOOKS_BETWEEN_SLEEPS {
+            let seen = self.ends(rt);
+            if let Some(reached) = self.try_round(rt, alloc, begun) {
+                return reached;
+            }
+            self.sleep_past(rt, seen);
+        }
+        let progress = self.progress.lock(rt);
+        self.round_for_all(rt, alloc, begun, progress)
+    }
+
+    /// Waits until all that has happened until now is on the disk, if replies wait for that.
     pub(crate) fn reach<R: Wait + Clock>(&self, rt: &R, alloc: Global) -> Result<(), Refusal> {
         match self.keeper.journal() {
             Some(settings) if settings.pause == 0 => {}
             _ => return Ok(()),
         }
-        let begun = self.rounds.load(Ordering::SeqCst);
-        for look in 0..LOOKS {
-            if self.has_ended_since(begun) {
-                return Ok(());
-            }
-            if let Some(mut progress) = self.progress.try_lock() {
-                return self.round_unless_ended(rt, alloc, begun, &mut progress);
-            }
-            if look < LOOKS_AWAKE {
-                yield_now();
-            } else {
-                sleep(rt, Duration::from_micros(MOMENT));
-            }
-        }
-        let mut progress = self.progress.lock(rt);
-        self.round_unless_ended(rt, alloc, begun, &mut progress)
+        self.arrived.fetch_add(1, Ordering::SeqCst);
+        self.wait_for_round(rt, alloc)
     }
 
     /// What is to be read in the hold in which an image is copied.

@@ -9,46 +9,18 @@ use Rattle.st_classes.specs.EditLists.{Begins}
 use Rattle.st_guard.specs.Moves.{CachesView}
 use Rattle.st_turn.specs.Claims.{BeganAs, ClaimView}
 use Rattle.st_image.specs.Images.{ImageView, world}
-use Rattle.st_image.proofs.KnownBodies.{knows_as, knows_later, last_as_before}
+use Rattle.st_image.proofs.Following.{begins_same, fits_claim_as, fits_claim_later, kept_later}
+use Rattle.st_image.proofs.KnownBodies.{last_as_before}
 use Rattle.st_image.specs.GoingOn.{FitsClaim, GoesOnIn}
 use Rattle.st_image.specs.KeptEdits.{KeepsBeginning}
 use Rattle.st_system.specs.Seats.{CanFollow, FitsSeat, HaveNothing, SeatView, TakesSeat}
-
-pub begins_same : (es : List Edit) → Begins es es
-begins_same es = ([], sym (append-nil es))
-
-pub begins_by : (es fs : List Edit) → fs ≡ es → Begins fs es
-begins_by es fs h = subst (λ (gs : List Edit). Begins gs es) (sym h) (begins_same es)
-
-pub begins_then : (es fs gs : List Edit) → Begins es fs → Begins fs gs → Begins es gs
-begins_then es fs gs (more, h) (rest, k) = (more ++ rest, k ∙ ap (λ (l : List Edit). l ++ rest) h ∙ append_assoc es more rest)
-
-fits_claim_later : (i j : ImageView) (c : ClaimView) → GoesOnIn i j → FitsClaim i c → FitsClaim j c
-fits_claim_later i j c on h = record {
-  edits = begins_then c.edits (world i).edits (world j).edits h.edits on.edits;
-  body = knows_later i j c on.bodies h.body;
-}
 
 claim_later : (o : Option ClaimView) (i j : ImageView) → GoesOnIn i j → IfSome o (FitsClaim i) → IfSome o (FitsClaim j)
 claim_later None i j on h = tt
 claim_later (Some c) i j on h = fits_claim_later i j c on h
 
--- a claim that began as another fits what that fits
-pub fits_as : (i : ImageView) (c d : ClaimView) → BeganAs c d → FitsClaim i c → FitsClaim i d
-fits_as i c d b h = record {
-  edits = subst (λ (es : List Edit). Begins es (world i).edits) (sym b.edits) h.edits;
-  body = knows_as i c d b h.body;
-}
-
 pub goes_on_same : (i : ImageView) → GoesOnIn i i
 goes_on_same i = record { edits = begins_same (world i).edits; bodies = last_as_before i i refl refl refl }
-
-list_later : (o : Option (List Edit)) (fs gs : List Edit) → Begins fs gs → IfSome o (λ k. Begins k fs) → IfSome o (λ k. Begins k gs)
-list_later None fs gs b h = tt
-list_later (Some k) fs gs b h = begins_then k fs gs h b
-
-pub kept_later : {G : Type 0} (v : CachesView G) (fs gs : List Edit) → Begins fs gs → KeepsBeginning fs v → KeepsBeginning gs v
-kept_later {G} v fs gs b h = list_later v.kept fs gs b h
 
 -- a worker fits a later image
 pub fits_later : {G : Type 0} (i j : ImageView) (s : SeatView G) → GoesOnIn i j → FitsSeat i s → FitsSeat j s
@@ -58,18 +30,10 @@ fits_later {G} i j s on h = record { claim = claim_later s.claim i j on h.claim;
 pub all_later : {G : Type 0} (i j : ImageView) (seats : List (SeatView G)) → GoesOnIn i j → All (FitsSeat i) seats → All (FitsSeat j) seats
 all_later {G} i j seats on h = All-weaker (FitsSeat i) (FitsSeat j) (λ s f. fits_later i j s on f) seats h
 
--- caches that kept the edits of a claim keep a beginning of what these begin
-pub kept_of_claim : {G : Type 0} (v : CachesView G) (es fs : List Edit) → IfSome v.kept (λ k. k ≡ es) → Begins es fs → KeepsBeginning fs v
-kept_of_claim {G} v es fs h b = one v.kept h
-  where
-    one : (o : Option (List Edit)) → IfSome o (λ k. k ≡ es) → IfSome o (λ k. Begins k fs)
-    one None g = tt
-    one (Some k) g = subst (λ (l : List Edit). Begins l fs) (sym g) b
-
 -- a worker whose claim took a step fits the image that it fitted
 pub step_fits : {G : Type 0} (i : ImageView) (s : SeatView G) (w : CachesView G) (c d : ClaimView) → s.claim ≡ Some c → BeganAs c d → KeepsBeginning d.edits w → FitsSeat i s → FitsSeat i (record { caches = w; claim = Some d })
 step_fits {G} i s w c d at began follows h =
-    let fits : FitsClaim i d = fits_as i c d began (subst (λ (o : Option ClaimView). IfSome o (FitsClaim i)) at h.claim) in
+    let fits : FitsClaim i d = fits_claim_as i c d began (subst (λ (o : Option ClaimView). IfSome o (FitsClaim i)) at h.claim) in
     record { claim = fits; kept = kept_later w d.edits (world i).edits fits.edits follows }
 
 -- what a commit handed back is followed as it was

@@ -33,13 +33,17 @@ abbrev pub part_at : List ℕ → Found → Part
 part_at key f =
     if bytes_eq key (codes "actor") then whole_part f.actor
     else (if bytes_eq key (codes "args") then arguments_part f.args
+    else (if bytes_eq key (codes "class") then text_part f.class
     else (if bytes_eq key (codes "cmd") then text_part f.cmd
+    else (if bytes_eq key (codes "epoch") then text_part f.epoch
+    else (if bytes_eq key (codes "ms") then whole_part f.ms
     else (if bytes_eq key (codes "quanta") then whole_part f.quanta
     else (if bytes_eq key (codes "selector") then text_part f.selector
     else (if bytes_eq key (codes "sender") then whole_part f.sender
     else (if bytes_eq key (codes "seq") then whole_part f.seq
+    else (if bytes_eq key (codes "source") then text_part f.source
     else (if bytes_eq key (codes "turn") then whole_part f.turn
-    else nothing)))))))
+    else nothing)))))))))))
 
 -- a part is that of the value at the key, if there is one
 abbrev pub IsPartOf : Part → Option Data → Type 0

@@ -1,6 +1,6 @@
 //! The command of a line, from what was found at its keys.
 ghost use Rattle.std.specs.Prelude.{◌≡◌, ◌≤◌, Some, IfOk, IfSome};
-ghost use Rattle.st_wire.specs.Commands.{close_in, command_in, outcome_in, post_in, run_in};
+ghost use Rattle.st_wire.specs.Commands.{close_in, command_in, method_in, outcome_in, post_in, run_in, wait_in};
 ghost use Rattle.st_wire.specs.Found.{IsOfForm};
 
 use crate::commands::{Command, DEFAULT_QUANTA};
@@ -9,7 +9,7 @@ use crate::misses::Miss;
 use crate::tokens::{actor_of, copied};
 use std::alloc::Global;
 
-/// The command, if it is of a form that is read from tokens: `post`, `run`, `outcome` or `close`.
+/// The command, if it is of a form that is read from tokens: `post`, `run`, `outcome`, `wait`, `method` or `close`.
 pub(crate) fn command_of(alloc: Global, found: Found<'_>) -> Result<Command, Miss>
     ensures { IfOk result (IsOfForm command_in found.entry) }
 {
@@ -17,6 +17,8 @@ pub(crate) fn command_of(alloc: Global, found: Found<'_>) -> Result<Command, Mis
         Some("post") => post(alloc, found),
         Some("run") => run(found),
         Some("outcome") => outcome(found),
+        Some("wait") => wait(alloc, found),
+        Some("method") => method(alloc, found),
         Some("close") => close(found),
         _ => Err(Miss::Undecided),
     }
@@ -103,5 +105,50 @@ fn outcome(found: Found<'_>) -> Result<Command, Miss>
     Ok(Command::Outcome {
         actor: actor_of(actor)?,
         turn,
+    })
+}
+
+fn wait(alloc: Global, found: Found<'_>) -> Result<Command, Miss>
+    ensures { IfOk result (IsOfForm wait_in found.entry) }
+{
+    let Found {
+        count: 5,
+        actor: Some(actor),
+        cmd: Some(_),
+        epoch: Some(epoch),
+        ms: Some(ms),
+        turn: Some(turn),
+        ..
+    } = found
+    else {
+        return Err(Miss::Undecided);
+    };
+    if ms > 60_000 {
+        return Err(Miss::Undecided);
+    }
+    Ok(Command::Wait {
+        actor: actor_of(actor)?,
+        epoch: copied(alloc, epoch)?,
+        ms: ms as u32,
+        turn,
+    })
+}
+
+fn method(alloc: Global, found: Found<'_>) -> Result<Command, Miss>
+    ensures { IfOk result (IsOfForm method_in found.entry) }
+{
+    let Found {
+        count: 3,
+        class: Some(class),
+        cmd: Some(_),
+        source: Some(source),
+        ..
+    } = found
+    else {
+        return Err(Miss::Undecided);
+    };
+    Ok(Command::Method {
+        class: copied(alloc, class)?,
+        source: copied(alloc, source)?,
     })
 }

@@ -21,11 +21,15 @@ pub(crate) struct Found<'a> {
     pub(crate) count: usize,
     pub(crate) actor: Option<u64>,
     pub(crate) args: Option<Seq<Argument>>,
+    pub(crate) class: Option<&'a str>,
     pub(crate) cmd: Option<&'a str>,
+    pub(crate) epoch: Option<&'a str>,
+    pub(crate) ms: Option<u64>,
     pub(crate) quanta: Option<u64>,
     pub(crate) selector: Option<&'a str>,
     pub(crate) sender: Option<u64>,
     pub(crate) seq: Option<u64>,
+    pub(crate) source: Option<&'a str>,
     pub(crate) turn: Option<u64>,
 }
 
@@ -49,11 +53,15 @@ impl<'a> Found<'a> {
             count: 0,
             actor: None,
             args: None,
+            class: None,
             cmd: None,
+            epoch: None,
+            ms: None,
             quanta: None,
             selector: None,
             sender: None,
             seq: None,
+            source: None,
             turn: None,
         }
     }
@@ -71,11 +79,15 @@ impl<'a> Found<'a> {
         match key {
             "actor" => keep(&mut self.actor, read_whole(reader)?),
             "args" => keep(&mut self.args, read_arguments(alloc, reader)?),
+            "class" => keep(&mut self.class, read_text(reader)?),
             "cmd" => keep(&mut self.cmd, read_text(reader)?),
+            "epoch" => keep(&mut self.epoch, read_text(reader)?),
+            "ms" => keep(&mut self.ms, read_whole(reader)?),
             "quanta" => keep(&mut self.quanta, read_whole(reader)?),
             "selector" => keep(&mut self.selector, read_text(reader)?),
             "sender" => keep(&mut self.sender, read_whole(reader)?),
             "seq" => keep(&mut self.seq, read_whole(reader)?),
+            "source" => keep(&mut self.source, read_text(reader)?),
             "turn" => keep(&mut self.turn, read_whole(reader)?),
             _ => Err(Miss::Undecided),
         }

@@ -31,7 +31,16 @@ async function answer(path, body) {
 }
 
 export const look = (what, more = {}) => answer("/look", { what, ...more });
-export const change = (what, more = {}) => answer("/do", { what, ...more });
+
+// The versions of the edits that this window made, so that their echo is not told as somebody else's.
+export const mine = new Set();
+
+export async function change(what, more = {}) {
+  const reply = await answer("/do", { what, ...more });
+  if (reply.ok?.version) mine.add(reply.ok.version);
+  return reply;
+}
+
 export const type = body => answer("/type", body);
 
 // The events of the watch, each given to `told`, until `signal` ends it or the server does.

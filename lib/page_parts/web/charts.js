@@ -29,14 +29,14 @@ export class Chart {
       `${this.title}: ${this.lists.map((it, n) => `${it.name} ${short(values[n].at(-1))}`).join(", ")}`);
     const still = { "vector-effect": "non-scaling-stroke" }, edits = this.edits(points);
     put(this.picture,
-      g("svg", { viewBox: `0 0 ${WIDE} ${HIGH}`, preserveAspectRatio: "none", "aria-hidden": "true" },
+      h("div", { of: "curves" }, g("svg", { viewBox: `0 0 ${WIDE} ${HIGH}`, preserveAspectRatio: "none", "aria-hidden": "true" },
         PARTS.map(y => g("line", { of: "grid", x1: 0, x2: WIDE, y1: HIGH * y, y2: HIGH * y, ...still })),
         this.lists.map((it, n) => { const path = line(values[n], WIDE, HIGH, most);
           return [it.isArea && g("path", { d: `${path}L${WIDE} ${HIGH}L0 ${HIGH}Z`, fill: it.colour, "fill-opacity": 0.12 }),
           g("path", { d: path, fill: "none", stroke: it.colour, "stroke-width": 1.7, "stroke-dasharray": it.isDashed ? "5 3" : "none",
           ...still })]; }),
         edits.map(it => g("line", { of: "edit", x1: it.x * WIDE, x2: it.x * WIDE, y1: 0, y2: HIGH, stroke: "var(--red)",
-          "stroke-dasharray": "4 3", ...still }))),
+          "stroke-dasharray": "4 3", ...still })))),
       this.chips(edits.slice(-MOST_EDITS)),
       h("div", { of: "scale", "aria-hidden": "true" },
         PARTS.map(y => h("span", { style: { top: `calc(${100 * y}% - 15px)` } }, short(most * (1 - y))))));
@@ -52,7 +52,7 @@ export class Chart {
       const { clientWidth: wide, clientHeight: high } = box, most = Math.max(1, Math.min(ROWS, Math.floor(high / ROW) - 1));
       const rows = Array.from({ length: most }, () => []);
       for (const it of made.map(each => ({ ...each, width: each.root.offsetWidth }))) {
-        const from = Math.max(4, Math.min(it.x * wide + 4, wide - it.width - OF_SCALE)), to = from + it.width + 4;
+        const from = Math.max(4, Math.min(it.x * (wide - OF_SCALE) + 4, wide - it.width - OF_SCALE)), to = from + it.width + 4;
         const row = rows.findIndex(taken => taken.every(([a, b]) => to <= a || from >= b));
         it.root.hidden = row < 0;
         if (row < 0) continue;

@@ -1,6 +1,7 @@
 // A text field without ink exactly over the coloured source: what is typed, undone and read aloud is that of the browser's own field.
 
 import { $, h } from "./dom.js";
+import { Indent } from "./indent.js";
 import { coloured, makeRoom, moved } from "./source.js";
 
 // `base` is the text to which the sites belong. `changed` is told of each text, `asked` of a send that was clicked with Ctrl.
@@ -12,7 +13,7 @@ export class Editor {
     this.now = [];
     this.field = h("textarea", {
       spellcheck: "false", autocapitalize: "off", autocomplete: "off", "aria-label": "Source of the method", id: "source",
-      placeholder: "bump: by\n    count := count + by.\n    ^count",
+      placeholder: "bump: by\n  count := count + by.\n  ^count", "aria-describedby": "leaving",
       oninput: () => { this.wrong = null; this.now = []; this.draw(); changed(this.field.value); },
       onkeydown: event => this.pressed(event),
       onmousemove: event => this.point(event),
@@ -20,7 +21,9 @@ export class Editor {
         if (it && (event.ctrlKey || event.metaKey)) asked(this.shownSites[it.dataset.n].selector); },
     });
     this.back = h("div", { of: "back" });
+    this.indent = new Indent(this.field);
     this.root = h("div", { of: "source" }, this.back, this.field);
+    this.hint = h("div", { of: "hint" }, h("span", { id: "leaving" }, "Tab indents; Escape, then Tab, leaves"));
   }
 
   // Shows a text of a version that has these sites.
@@ -71,7 +74,7 @@ export class Editor {
 
   // A new line begins under the one before.
   pressed(event) {
-    if (event.key !== "Enter" || event.ctrlKey || event.metaKey || event.altKey) return;
+    if (this.indent.takes(event) || event.key !== "Enter" || event.ctrlKey || event.metaKey || event.altKey) return;
     const line = this.text.slice(0, this.field.selectionStart).split("\n").pop(), blanks = line.match(/^[ \t]*/)[0];
     if (!blanks) return;
     event.preventDefault();

@@ -1,9 +1,12 @@
 // Who posts to whom: a circle for each class, filled as the mailboxes of its actors are, and a line for what it posts.
 
-import { button, g, h, many, put, short } from "./dom.js";
+import { curve, loop } from "./curves.js";
+import { button, g, h, many, plural, put, short } from "./dom.js";
 import { go } from "./image.js";
+import { Labels } from "./labels.js";
 
-const FULL = 64, CLIENTS = "";
+// A picture that is narrower is drawn from above to below.
+const FULL = 64, CLIENTS = "", NARROW = 520, APART = 76;
 const HOW = "What each site posts and each actor accepts is counted by the image. To which of the classes that understand a message a site "
   + "posts is not; there it is shared out by what they accepted. A line begins at the class that has the method which posts.";
 const name = it => (it === CLIENTS ? "clients" : it);
@@ -48,7 +51,7 @@ export class Graph {
   place() {
     for (const it of this.graph.edges) this.known.set(`${it.from} ${it.to}`, it);
     for (const it of this.graph.nodes) if (!this.known.has(it.class)) this.known.set(it.class, { from: it.class, to: it.class });
-    const wide = (this.wide = Math.max(420, this.body.clientWidth)), high = (this.high = Math.max(220, this.body.clientHeight)),
+    const wide = (this.wide = Math.max(300, this.body.clientWidth)), high = (this.high = Math.max(220, this.body.clientHeight)),
       key = [wide, high, this.known.size].join(" ");
     if (key === this.key) return;
     this.key = key;
@@ -62,56 +65,65 @@ export class Graph {
     for (const it of all) if (!layer.has(it)) layer.set(it, edges.some(each => each.to === it) ? 3 : 1);
     const used = [...new Set(layer.values())].sort((a, b) => a - b);
     this.places = new Map();
+    // In a narrow picture the arrows lead down, in a wide one to the right.
+    const isTall = wide < NARROW, long = isTall ? high : wide, across = isTall ? wide : high;
     used.forEach((k, column) => {
-      const here = all.filter(it => layer.get(it) === k);
-      here.forEach((it, n) => this.places.set(it,
-        [70 + (column * (wide - 140)) / Math.max(1, used.length - 1), (high * (n + 1)) / (here.length + 1) + (column % 2 ? 16 : -16)]));
+      const here = all.filter(it => layer.get(it) === k), step = (long - 2 * (isTall ? 44 : 70)) / Math.max(1, used.length - 1);
+      // Many of one layer do not stand in one line.
+      const apart = across / (here.length + 1), lines = Math.min(here.length, Math.ceil(APART / apart)), back = Math.min(APART, step / (lines + 1));
+      here.forEach((it, n) => {
+        const place = [(isTall ? 44 : 70) + column * step - (column ? (n % lines) * back : 0),
+          apart * (n + 1) + (lines > 1 ? 0 : column % 2 ? 16 : -16)];
+        this.places.set(it, isTall ? place.reverse() : place);
+      });
     });
   }
 
   picture() {
     this.place();
-    const { nodes, edges } = this.graph, by = new Map(nodes.map(it => [it.class, it]));
+    const { nodes, edges } = this.graph, by = new Map(nodes.map(it => [it.class, it])), clients = edges.some(it => it.from === CLIENTS);
     const radius = it => (it === CLIENTS ? 16 : 13 + Math.min(25, 5 * Math.log1p(by.get(it)?.actors ?? 1)));
     const tip = g("marker", { id: "tip", viewBox: "0 0 8 8", refX: 5, refY: 4, markerWidth: 9, markerHeight: 9,
       markerUnits: "userSpaceOnUse", orient: "auto" }, g("path", { d: "M0 0L8 4L0 8Z", fill: "var(--accent)" }));
     const said = edges.map(it => `${name(it.from)} to ${it.to} ${short(it.rate)}`).join(", ");
-    const clients = edges.some(it => it.from === CLIENTS);
+    const circles = [...(clients ? [CLIENTS] : []), ...nodes.map(it => it.class)].map(it => ({ of: it, place: this.places.get(it), r: radius(it) }));
+    const arrows = edges.map(it => this.arrow(it, circles)), labels = new Labels(this.wide, this.high, circles, arrows);
+    const beside = new Map(circles.map(({ of, place, r }) => [of, written(labels.ofCircle(linesOf(of, by.get(of)), place, r))]));
     return g("svg", { viewBox: `0 0 ${this.wide} ${this.high}`, role: "img", "aria-label": `messages a second: ${said}` },
-      g("defs", {}, tip),
-      edges.map(it => this.edge(it, radius)), clients && this.clients(radius(CLIENTS)), nodes.map(it => this.node(it, radius(it.class))));
+      g("defs", {}, tip), arrows.map(it => it.root), clients && g("g", {}, this.clients(radius(CLIENTS)), beside.get(CLIENTS)),
+      nodes.map(it => this.node(it, radius(it.class), beside.get(it.class))),
+      arrows.map(it => labels.ofArrow(it.text, it.points)).filter(Boolean).map(written));
   }
 
-  edge({ from, to, rate }, radius) {
-    const [x1, y1] = this.places.get(from), [x2, y2] = this.places.get(to), r1 = radius(from), r2 = radius(to);
-    const width = 0.9 + 1.5 * Math.log1p(rate) / 1.6, isSelf = from === to;
-    const long = Math.hypot(x2 - x1, y2 - y1) || 1, ux = (x2 - x1) / long, uy = (y2 - y1) / long, bend = Math.min(34, long / 8);
-    const a = [x1 + ux * r1, y1 + uy * r1], b = [x2 - ux * (r2 + 7), y2 - uy * (r2 + 7)],
-      m = [(a[0] + b[0]) / 2 - uy * bend, (a[1] + b[1]) / 2 + ux * bend];
-    const d = isSelf
-      ? `M${x1 - 12} ${y1 - r1 + 3}C${x1 - 46} ${y1 - r1 - 48} ${x1 + 46} ${y1 - r1 - 48} ${x1 + 12} ${y1 - r1 + 1}` : `M${a}Q${m} ${b}`;
-    const [x, y] = isSelf ? [x1, y1 - r1 - 40] : [(a[0] + 2 * m[0] + b[0]) / 4, (a[1] + 2 * m[1] + b[1]) / 4 - 4];
-    return [g("path", { of: "edge", d, "stroke-width": width.toFixed(1), "stroke-opacity": 0.5, "marker-end": "url(#tip)" }),
-      g("text", { x, y, "text-anchor": "middle" }, short(rate))];
+  arrow({ from, to, rate }, circles) {
+    const here = circles.find(it => it.of === from), there = circles.find(it => it.of === to), width = 0.9 + 1.5 * Math.log1p(rate) / 1.6;
+    const { d, points } = from === to ? loop(here) : curve(here, there, circles.filter(it => it !== here && it !== there));
+    const root = g("path", { of: "edge", d, "stroke-width": width.toFixed(1), "stroke-opacity": 0.5, "marker-end": "url(#tip)" },
+      g("title", {}, `${name(from)} to ${to}: ${short(rate)} a second`));
+    // The tip is wider than a thin line.
+    return { root, points, width: Math.max(width, 8), text: short(rate) };
   }
 
   clients(r) {
     const [x, y] = this.places.get(CLIENTS);
-    return [g("circle", { of: "bare", cx: x, cy: y, r }), g("circle", { of: "node clients", cx: x, cy: y, r }),
-      g("text", { of: "strong", x, y: y + r + 15, "text-anchor": "middle" }, "clients")];
+    return [g("circle", { of: "bare", cx: x, cy: y, r }), g("circle", { of: "node clients", cx: x, cy: y, r })];
   }
 
-  node(it, r) {
+  node(it, r, label) {
     const [x, y] = this.places.get(it.class), level = Math.min(1, it.waiting / Math.max(1, it.actors) / FULL), isCrowded = level > 0.5;
     return g("g", { of: "go", role: "link", tabindex: "0",
       "aria-label": `${it.class}: ${many(it.actors)} actors, ${many(it.waiting)} messages wait`,
       onclick: () => go("browse", { class: it.class, selector: undefined }),
       onkeydown: event => { if (event.key === "Enter") go("browse", { class: it.class, selector: undefined }); } },
+      g("title", {}, linesOf(it.class, it).join(": ")),
       g("clipPath", { id: `in-${it.class}` }, g("circle", { cx: x, cy: y, r })), g("circle", { of: "bare", cx: x, cy: y, r }),
       g("rect", { x: x - r, y: y + r - 2 * r * level, width: 2 * r, height: 2 * r * level, "clip-path": `url(#in-${it.class})`,
         fill: isCrowded ? "var(--red)" : "var(--amber)", "fill-opacity": 0.6 }),
-      g("circle", { of: `node ${isCrowded ? "crowded" : ""}`, cx: x, cy: y, r }),
-        g("text", { of: "strong", x, y: y + r + 15, "text-anchor": "middle" }, it.class),
-      g("text", { x, y: y + r + 28, "text-anchor": "middle" }, `${many(it.actors)} actors, ${many(it.waiting)} wait`));
+      g("circle", { of: `node ${isCrowded ? "crowded" : ""}`, cx: x, cy: y, r }), label);
   }
 }
+
+const linesOf = (of, it) => (it ? [of, `${plural(it.actors, "actor")}, ${many(it.waiting)} wait`] : [name(of)]);
+
+const written = it => it.lines.map((text, n) =>
+  g("text", { of: it.isStrong && n === 0 ? "strong" : "", x: it.x, y: it.y + 13 * n, "text-anchor": "middle" }, text));

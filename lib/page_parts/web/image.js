@@ -1,6 +1,6 @@
 // What is known of the image here, and what one sees of it. Views read these, and tell others by `go`.
 
-import { look } from "./ask.js";
+import { look, mine } from "./ask.js";
 
 // Whether it is a file; the classes by their names, in the order of their numbers; the figures and the curves; the edits that were seen; the
 // newest faults.
@@ -35,6 +35,7 @@ export async function see() {
 
 // Takes what an event tells of classes and numbers. Gives whether classes have changed.
 export function take(event) {
+  const isOther = event.allClasses && event.epoch !== image.epoch;
   Object.assign(image, { state: event.state, said: event.said, asOf: event.asOf ?? image.asOf, epoch: event.epoch });
   if (event.figures) image.figures = event.figures;
   if (event.isAnew) Object.assign(image, { points: [], faults: { count: null, names: {}, all: [] } });
@@ -43,6 +44,8 @@ export function take(event) {
   if (event.edits?.length) image.edits = [...image.edits, ...event.edits].slice(-200);
   if (event.version !== undefined) image.version = event.version;
   if (event.allClasses || event.isAnew) image.heat = {};
+  // Another image counts its versions anew.
+  if (isOther) mine.clear();
   if (event.heat) image.heat = { ...image.heat, ...event.heat };
   if (!event.classes) return false;
   if (event.allClasses) image.classes = new Map();
@@ -61,6 +64,12 @@ export const chain = name => {
 // The version of a class's own method, and 0 where it has none; and the class whose method a send to an object of a class runs.
 export const versionOf = (name, selector) => image.classes.get(name)?.methods.get(selector) || 0;
 export const holder = (name, selector) => chain(name).find(it => it.methods.has(selector) || it.kernel.includes(selector))?.name ?? null;
+
+// The classes that have a selector, in the order of their numbers, as the events have told them; and whether the newest edit of one was
+// made in this window.
+export const implementors = selector => [...image.classes.values()].filter(it => it.methods.has(selector) || it.kernel.includes(selector))
+  .map(it => ({ class: it.name, isKernel: !it.methods.has(selector) }));
+export const isMine = selector => mine.has(image.edits.filter(it => it.selector === selector).at(-1)?.version);
 
 export const slotsOf = name => chain(name).reverse().flatMap(it => it.slots.map(slot => ({ slot, from: it.name })));
 export const below = name => [...image.classes.values()].filter(it => it.above === name);

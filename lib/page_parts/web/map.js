@@ -68,6 +68,7 @@ export class ActorMap {
     if (of === "fault") { pen.beginPath(); pen.moveTo(x, y); pen.lineTo(x + size, y); pen.lineTo(x, y + size); pen.fill(); }
     else if (of === "turn") pen.fillRect(x + size / 2 - 1, y + size / 2 - 1, 2, 2);
     else if (of === "closed") pen.fillRect(x + 2, y + 2, size - 4, size - 4);
+    else if (of === "fresh") pen.fillRect(x + 1, y + 1, size - 2, size - 2);
     else if (of === "waits") pen.fillRect(x, y, size, 1.5);
   }
 

@@ -1,16 +1,18 @@
 // The pane of one method: its source, what is said of it, and what can be done with it.
 
-import { change, look } from "./ask.js";
+import { change, look, mine } from "./ask.js";
 import { confirmed } from "./dialog.js";
 import { difference } from "./diff.js";
 import { button, h, put, setText, toast } from "./dom.js";
 import { draft, hasDraft, keep } from "./drafts.js";
 import { Editor } from "./editor.js";
 import { find } from "./find.js";
-import { at, holder, image, see, versionOf } from "./image.js";
+import { at, holder, image, isMine, see, versionOf } from "./image.js";
 import { makeRoom } from "./source.js";
 import { Under } from "./under.js";
 
+// Who has made an edit: somebody at this page, or another client.
+const by = it => (it?.isOurs ? "in the workspace or another window of this page" : "by somebody else");
 const ORDER = n => `${n}${n % 100 > 10 && n % 100 < 14 ? "th" : ["th", "st", "nd", "rd"][n % 10] || "th"}`;
 
 // `told` is what the server says of the method; that of a new one has no version. `theirs` is another person's version, if one came, and
@@ -33,7 +35,7 @@ export class MethodPane {
     this.over = h("div", { of: "scroll over" }, this.editor.root);
     this.none = h("div", { of: "nothing" }, "Choose a method, or write a new one with + above the methods.");
     this.root = h("section", { of: "pane", "aria-label": "Method" },
-      h("header", {}, this.head, this.chip, Object.values(this.buttons)), this.banner, this.none, this.over, this.under.root);
+      h("header", {}, this.head, this.chip, Object.values(this.buttons)), this.banner, this.none, this.over, this.editor.hint, this.under.root);
     this.draw();
   }
 
@@ -71,7 +73,7 @@ export class MethodPane {
     const kept = draft(told.class, told.selector);
     at.shown = (told.source !== undefined || kept) && !told.isNew ? [told.class, told.selector] : null;
     if (kept && !told.kernel) {
-      if (kept.version !== (told.version || 0)) this.theirs = { version: told.version || 0, source: told.source ?? null };
+      if (kept.version !== (told.version || 0)) this.theirs = { ...told.versions.at(-1), version: told.version || 0, source: told.source ?? null };
       this.began = { base: kept.base, version: kept.version };
       this.editor.show(kept.source, kept.version === told.version ? told.source : kept.base,
         kept.version === told.version ? told.sites : []);
@@ -134,7 +136,7 @@ export class MethodPane {
       put(this.none, this.whyNone());
     }
     this.chip.hidden = !this.isChanged;
-    this.editor.field.readOnly = image.isFile;
+    this.editor.field.readOnly = this.editor.hint.hidden = image.isFile;
     this.buttons.install.hidden = this.buttons.revert.hidden = image.isFile;
     this.buttons.install.disabled = !this.isChanged || image.isFile;
     this.buttons.install.className = this.isChanged ? "main" : "plain";
@@ -176,7 +178,7 @@ export class MethodPane {
     const { version, source } = this.theirs, began = this.began.version;
     const isOther = this.other && this.other !== this.told.selector, mine = isOther ? this.other : this.told.selector;
     const what = isOther ? `There is a method ${mine} already, version ${version}` : version ? `Replaced meanwhile by version ${version}` : "Removed meanwhile";
-    const how = isOther ? "" : began ? ` by somebody else; you began with ${began}` : " by somebody else; you began with none";
+    const how = isOther ? "" : ` ${by(this.theirs)}; you began with ${began || "none"}`;
     put(this.banner, h("div", { of: "banner", id: "conflict" },
       h("b", {}, what), h("span", { of: "grow" }, `${how}. Nothing is overwritten.`),
       button("plain", "Show both", () => { this.areBoth = !this.areBoth; this.drawBanner(); },
@@ -288,6 +290,7 @@ export class MethodPane {
   // What a tick tells. Another version than the one in sight is somebody else's.
   tell(event) {
     const told = this.told, sites = event.sites;
+    this.under.tellClasses();
     if (!told || told.isNew || at.selector !== told.selector || this.isInstalling || this.isAsking || this.isOpening) return;
     const { class: name, selector } = told, version = versionOf(name, selector), from = name !== at.class && holder(at.class, selector);
     if (sites && this.shows(sites.class, sites.selector) && sites.version === told.version) {
@@ -308,7 +311,7 @@ export class MethodPane {
     if (from === this.hasOwn && this.isChanged) return;
     this.hasOwn = from;
     if (this.isChanged) { this.draw(); return; }
-    toast(`${at.class} runs ${selector} of ${from} now, no longer that of ${name}`, "warn");
+    if (!isMine(selector)) toast(`${at.class} runs ${selector} of ${from} now, no longer that of ${name}`, "warn");
     this.open(at.class, selector, from);
   }
 
@@ -326,8 +329,8 @@ export class MethodPane {
   async refresh() {
     const { class: name, selector, version } = this.told, now = await this.asked();
     if (!now || now.version === (version || 0) || this.isChanged) return;
-    const what = now.version ? `is version ${now.version} now, of somebody else` : "was removed by somebody else";
-    toast(`${name} › ${selector} ${what}`, "warn");
+    const edit = now.told.versions.at(-1), what = now.version ? `is version ${now.version} now, made` : "was removed";
+    if (!mine.has(edit?.version)) toast(`${name} › ${selector} ${what} ${by(edit)}`, "warn");
     this.take(now.told);
   }
 
@@ -336,7 +339,7 @@ export class MethodPane {
     const { class: name, selector } = this.told, now = await this.asked();
     if (!now || now.version === this.began.version) return;
     this.told = { ...now.told, class: name, selector };
-    Object.assign(this, { theirs: { version: now.version, source: now.source }, other: null });
+    Object.assign(this, { theirs: { ...now.told.versions.at(-1), version: now.version, source: now.source }, other: null });
     this.draw();
     this.under.open();
   }

@@ -1,16 +1,18 @@
 // The view of pictures: who posts to whom, how much is done a second, what waits, what ends by faults, and how much room is left.
 
 import { button, duration, h, many, put } from "./dom.js";
-import { putFaults } from "./faults.js";
+import { hasPlaces, putFaults } from "./faults.js";
 import { Boxes, Chart } from "./charts.js";
 import { Graph } from "./graph.js";
 import { at, go, image } from "./image.js";
 
 const graph = new Graph(), boxes = new Boxes();
+const failing = new Chart("Faults a second", [{ name: "turns that failed", place: 5, colour: "var(--red)", isArea: true }]);
 const charts = [
   new Chart("Messages a second", [{ name: "turns", place: 2, colour: "var(--accent)", isArea: true },
     { name: "posts of clients", place: 1, colour: "var(--post)", isDashed: true }]),
   new Chart("Steps a second", [{ name: "steps", place: 3, colour: "var(--green)", isArea: true }]),
+  failing,
   new Chart("Messages that wait", [{ name: "in all mailboxes", place: 4, colour: "var(--amber)", isArea: true }]),
 ];
 const room = h("div", { of: "scroll" }), faults = h("div", { of: "scroll" });
@@ -38,7 +40,7 @@ function drawRoom() {
     ["names", it.names, 8192, ""], ["classes", it.classes, 1024, ""], ["actors", it.actors, 65536, ""], ["sessions", it.sessions, 64, ""]];
   put(room, h("table", {}, h("tbody", {},
     rows.map(([what, n, most, said]) => h("tr", { title: `${many(n)} of ${many(most)}` }, h("td", {}, what),
-    h("td", {}, h("span", { of: "found" },
+    h("td", { of: "of-bar" }, h("span", { of: "found" },
       h("i", { style: { width: `${Math.min(100, (100 * n) / most)}%`, background: n > 0.8 * most ? "var(--amber)" : "var(--accent)" } }))),
     h("td", { of: "num" }, many(n)), h("td", { of: "dim" }, said || `of ${many(most)}`))))));
 }
@@ -49,6 +51,7 @@ function drawFaults() {
 }
 
 function draw() {
+  failing.root.hidden = !hasPlaces();
   for (const it of charts) it.draw();
   drawRoom();
 }

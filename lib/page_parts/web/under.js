@@ -4,7 +4,7 @@ import { look } from "./ask.js";
 import { difference } from "./diff.js";
 import { aOrAn, button, h, many, put, short } from "./dom.js";
 import { light } from "./editor.js";
-import { at, go } from "./image.js";
+import { at, go, image, implementors } from "./image.js";
 import { legend, shapes } from "./shapes.js";
 
 const TABS = { sites: "Call sites", versions: "Versions", senders: "Senders", implementors: "Implementors", running: "Actors in it" };
@@ -16,6 +16,7 @@ export class Under {
     this.counts = {};
     this.before = null;
     this.rates = [];
+    this.lists = {};
     this.tabs = Object.fromEntries(Object.entries(TABS).map(([key, name]) => [key, h("button", {
       role: "tab", type: "button", id: `under-${key}`, "aria-controls": "under-body", onclick: () => this.choose(key),
     }, name, h("span", { of: "count" }))]));
@@ -39,18 +40,44 @@ export class Under {
     this.counts = { sites: told.sites?.length ?? "", versions: told.versions.length };
     // Of a method that is gone nothing else is left.
     if (told.gone && !this.pane.hasText) at.tab = "versions";
+    this.lists = {};
+    this.tellImplementors();
     this.show();
-    if (!told.selector) return;
-    const isHere = () => this.pane.told === told;
-    look("senders", { selector: told.selector }).then(it => isHere() && it.ok && this.count("senders", it.ok));
-    look("implementors", { selector: told.selector }).then(it => isHere() && it.ok && this.count("implementors", it.ok));
+    this.ask();
   }
 
-  count(key, list) {
-    this.counts[key] = list.length;
-    this[key] = list;
+  // Asks who sends the selector of what is in sight, and who has it; again where the classes have changed since.
+  ask() {
+    const { told } = this.pane;
+    if (!told?.selector) return;
+    this.asked = image.version;
+    for (const key of ["senders", "implementors"]) look(key, { selector: told.selector }).then(it => {
+      if (this.pane.told === told && it.ok) this.count(key, it);
+    });
+  }
+
+  // A list is of one version of the classes, and of none before that of the method in sight.
+  count(key, { ok, edits }) {
+    if (edits < Math.max(this.pane.told.edits, this.lists[key]?.edits ?? 0)) return;
+    this.lists[key] = { list: ok, edits };
+    this.counts[key] = ok.length;
     if (at.tab === key) this.show();
     else this.head();
+  }
+
+  // What events have told of the classes: who has a selector is known here then, and who sends it is asked.
+  tellClasses() {
+    const { told } = this.pane;
+    if (!told?.selector || image.version === this.asked) return;
+    // Another image counts its versions anew.
+    if (image.version < this.asked) { this.lists = {}; told.edits = 0; }
+    this.tellImplementors();
+    this.ask();
+  }
+
+  tellImplementors() {
+    const { told } = this.pane;
+    if (told.selector && image.version >= told.edits) this.count("implementors", { ok: implementors(told.selector), edits: image.version });
   }
 
   head() {
@@ -121,14 +148,16 @@ export class Under {
   }
 
   ofSenders() {
-    const rows = this.senders || [];
+    const rows = this.lists.senders?.list;
+    if (!rows) return h("div", { of: "nothing" }, "…");
     if (!rows.length) return h("div", { of: "nothing" }, `No method sends ${this.pane.told.selector}.`);
     return rows.map(it => this.row(it.class, it.selector, shapes(it.kinds),
       h("span", { of: "count" }, it.posts ? "posts it" : many(it.sends))));
   }
 
   ofImplementors() {
-    return (this.implementors || []).map(it => this.row(it.class, this.pane.told.selector,
+    const rows = this.lists.implementors?.list;
+    return !rows ? h("div", { of: "nothing" }, "…") : rows.map(it => this.row(it.class, this.pane.told.selector,
       h("span", { of: "count" }, it.isKernel ? "kernel" : "")));
   }
 

@@ -6,7 +6,7 @@ import { showFault } from "./faults.js";
 import { go } from "./image.js";
 import { tokens } from "./source.js";
 
-const WORDS = { waits: "waits for the entry before", runs: "runs", broken: "broken off" };
+const WORDS = { waits: "waits for the entry before", runs: "runs", broken: "has not begun: the entry before was broken off" };
 const KEPT = "actorimage-typed";
 // Words that are shown, and lines above which an answer has the whole width.
 const MOST_SHOWN = 60, LONG = 5;
@@ -20,8 +20,8 @@ const field = h("textarea", { rows: "1", spellcheck: "false", autocapitalize: "o
 const offers = h("div", { id: "offers", role: "status", "aria-label": "What it may become", hidden: true });
 const list = h("div", { id: "cards", role: "log", "aria-label": "What was typed and answered", tabindex: "0" });
 const names = h("div", { id: "names", "aria-label": "Names" });
-const stops = button("plain", "Break off", () => { field.focus(); type({ break: true }); },
-  { title: "Stops waiting for the entry that goes on", hidden: true, id: "break" });
+const stops = button("plain", "Break off", () => { field.focus(); breakOff(); },
+  { title: "Stops waiting for the entry that goes on; those behind it come back into the field", hidden: true, id: "break" });
 
 const folds = button("", "▾", () => fold(!$("#work").classList.contains("folded")),
   { title: "Folds the workspace to one line", "aria-label": "Fold the workspace", id: "fold" });
@@ -45,10 +45,9 @@ export function workspace() {
 
 // Puts the beginning of an entry into the field.
 export function prefill(text) {
-  field.value = text;
+  write(text);
   field.focus();
   field.setSelectionRange(text.length, text.length);
-  grow();
 }
 
 export const focusWork = () => field.focus();
@@ -100,8 +99,15 @@ function pressed(event) {
     place = to;
     prefill(typed[place] ?? "");
   } else if (event.key === "c" && event.ctrlKey && field.selectionStart === field.selectionEnd && !stops.hidden) {
-    type({ break: true });
+    breakOff();
   }
+}
+
+// What has not begun comes back into the field, before what is typed there. An empty line ends a method.
+async function breakOff() {
+  const reply = await type({ break: true });
+  if (reply.error) { refused(reply.said); return; }
+  if (reply.ok.length) prefill([...reply.ok, field.value].filter(it => it.trim()).join("\n\n"));
 }
 
 async function send() {
@@ -138,7 +144,7 @@ function card(it) {
     it.state === "fault" && "✕ ", it.lines.join("\n"), state);
   const [, turn, number] = /^fault \w+ in turn (\d+) of actor (\d+)$/m.exec(it.lines.join("\n")) || [];
   const of = number && button("link", `inspect actor ${number}`, () => showFault({ actor: Number(number), turn, epoch: it.epoch }));
-  if (WORDS[it.state]) state.textContent = ` ${WORDS[it.state]}${it.state === "runs" && waits ? doing() : ""}`;
+  if (WORDS[it.state]) state.textContent = `${it.lines.length ? " " : ""}${WORDS[it.state]}${it.state === "runs" && waits ? doing() : ""}`;
   return h("div", { of: `card${it.lines.length > LONG ? " long" : ""}`, "data-number": it.number },
     h("span", { of: "faint code", "aria-hidden": "true" }, "›"),
     h("pre", {}, coloured(it.typed)),

@@ -1,5 +1,7 @@
 //! How an image does the lines of a journal's text again.
 ghost use Rattle.std.specs.Prelude.{◌≡◌, ◌==◌, ◌<◌, ◌∷◌, List, length, position, IfErr, IfOk, OnOk};
+ghost use Rattle.st_image.specs.Images.{world};
+ghost use Rattle.st_image.specs.KeptEdits.{KeepsBeginning};
 ghost use Rattle.st_journal.specs.declared.entries.Entry.{Entry};
 ghost use Rattle.st_journal.specs.Entries.{Leads};
 ghost use Rattle.st_journal.specs.EntryTexts.{ReadsAll, RefusesLine, SaysAt, StopsAtLine, lines_of};
@@ -7,7 +9,7 @@ ghost use Rattle.st_journal.specs.EntryTexts.{ReadsAll, RefusesLine, SaysAt, Sto
 use crate::entries::Entry;
 use crate::reading::read_entry;
 use crate::redo_error::{LineError, RedoError, RefusedLine};
-use crate::redoing::redo;
+use crate::redoing::redo_next;
 use st_classes::refusals::Refusal;
 use st_file::files::value_of_bytes;
 use st_guard::guard::Guard;
@@ -58,18 +60,20 @@ pub(super) fn entry_of<M: Mailbox>(
     }
 }
 
-/// Does the entry that a line says again.
+/// Does the entry that a line says again, by a worker who keeps no edits but first ones of the image's.
 fn redo_line<M: Mailbox, G: Guard>(
     alloc: Global,
     image: &mut Image<M>,
     worker: &mut Worker<G>,
     line: &[u8],
 ) -> Result<(), LineError>
+    requires { KeepsBeginning (world image.old).edits worker.old }
     ensures ok { OnOk result ((e : Entry) × SaysAt image.old line.now e × Leads image.old e image.new) }
     ensures err { IfErr result (λ e. RefusesLine image.old line.now e) }
+    ensures kept { OnOk result (KeepsBeginning (world image.new).edits worker.new) }
 {
     let entry = entry_of(alloc, image, line)?;
-    match redo(alloc, image, worker, &entry) {
+    match redo_next(alloc, image, worker, &entry) {
         Ok(()) => Ok(()),
         Err(error) => Err(LineError::Redo(error)),
     }
@@ -79,7 +83,8 @@ fn redo_line<M: Mailbox, G: Guard>(
 /// image has by then.
 ///
 /// The answer is that all of them were done, or which line is refused, and why: it is not JSON, or its value tells no entry there, or the
-/// entry is refused as [`redo`] refuses it, or memory ran out. The lines before it were done then, and the image is to be dropped.
+/// entry is refused as [`redo`](crate::redoing::redo) refuses it, or memory ran out. The lines before it were done then, and the image is
+/// to be dropped. What the worker had found before is forgotten.
 pub fn redo_text<M: Mailbox, G: Guard>(
     alloc: Global,
     image: &mut Image<M>,
@@ -89,6 +94,7 @@ pub fn redo_text<M: Mailbox, G: Guard>(
     ensures ok { OnOk result ((es : List Entry) × ReadsAll image.old (lines_of text.now) es image.new) }
     ensures err { IfErr result (λ r. StopsAtLine image.old (lines_of text.now) r) }
 {
+    worker.forget();
     let mut place = 0;
     let mut rest = text;
     while !rest.is_empty() {

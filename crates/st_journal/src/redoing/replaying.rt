@@ -1,5 +1,7 @@
 //! How an image does the beginning of a journal's text again.
 ghost use Rattle.std.specs.Prelude.{◌≡◌, ◌≤◌, ◌⊎◌, Some, IfErr, IfOk, OnOk};
+ghost use Rattle.st_image.specs.Images.{world};
+ghost use Rattle.st_image.specs.KeptEdits.{KeepsBeginning};
 ghost use Rattle.st_journal.specs.declared.entries.Entry.TheVariants as entry;
 ghost use Rattle.st_journal.specs.Entries.{Leads};
 ghost use Rattle.st_journal.specs.EntryTexts.{RefusesLine, StopsAtLine, lines_of};
@@ -8,7 +10,7 @@ ghost use Rattle.st_journal.specs.Replays.{DoesOrLeaves, Replays, StandsAt, Take
 use crate::entries::Entry;
 use crate::redo_error::{LineError, RedoError, RefusedLine};
 use crate::redoing::lines::{entry_of, first_line};
-use crate::redoing::redo;
+use crate::redoing::redo_next;
 use st_classes::values::ActorId;
 use st_guard::guard::Guard;
 use st_image::image::Image;
@@ -80,14 +82,16 @@ fn redo_unless<M: Mailbox, G: Guard>(
     done: usize,
     until: Until,
 ) -> Result<Option<Entry>, LineError>
+    requires { KeepsBeginning (world image.old).edits worker.old }
     ensures ok { IfOk result (λ next. DoesOrLeaves image.old line.now next image.new) }
     ensures err { IfErr result (λ e. RefusesLine image.old line.now e) }
+    ensures kept { OnOk result (KeepsBeginning (world image.new).edits worker.new) }
 {
     let entry = entry_of(alloc, image, line)?;
     if until.is_before(done, image.counted().steps, &entry) {
         return Ok(Some(entry));
     }
-    match redo(alloc, image, worker, &entry) {
+    match redo_next(alloc, image, worker, &entry) {
         Ok(()) => Ok(None),
         Err(error) => Err(LineError::Redo(error)),
     }
@@ -102,8 +106,10 @@ fn redo_until<M: Mailbox, G: Guard>(
     text: &[u8],
     until: Until,
 ) -> Result<Stopped, RefusedLine>
+    requires { KeepsBeginning (world image.old).edits worker.old }
     ensures ok { IfOk result (λ s. StandsAt image.old (lines_of text.now) s.done s.next image.new) }
     ensures err { IfErr result (λ r. StopsAtLine image.old (lines_of text.now) r) }
+    ensures kept { OnOk result (KeepsBeginning (world image.new).edits worker.new) }
 {
     let mut done = 0;
     let mut rest = text;
@@ -131,12 +137,13 @@ fn run_some<M: Mailbox, G: Guard>(
     actor: ActorId,
     steps: u32,
 ) -> Result<(), ReplayError>
+    requires { KeepsBeginning (world image.old).edits worker.old }
     ensures { OnOk result ((image.new ≡ image.old) ⊎ Leads image.old (entry.Ran actor steps) image.new) }
 {
     if steps == 0 {
         return Ok(());
     }
-    match redo(alloc, image, worker, &Entry::Ran { actor, steps }) {
+    match redo_next(alloc, image, worker, &Entry::Ran { actor, steps }) {
         Ok(()) => Ok(()),
         Err(RedoError::OtherSteps) => Err(ReplayError::WithinCommit),
         Err(error) => Err(ReplayError::Redo(error)),
@@ -151,6 +158,7 @@ fn run_part<M: Mailbox, G: Guard>(
     next: &Option<Entry>,
     until: Until,
 ) -> Result<(), ReplayError>
+    requires { KeepsBeginning (world image.old).edits worker.old }
     ensures { OnOk result (TakesSome image.old next.now image.new) }
 {
     match next {
@@ -165,7 +173,7 @@ fn run_part<M: Mailbox, G: Guard>(
 /// Does the beginning of a text again: the entries that its first lines say, and where a number of steps is wanted, as many of the first
 /// steps of the line behind them.
 ///
-/// The answer is how many lines were done whole. After an error the image is to be dropped.
+/// The answer is how many lines were done whole. After an error the image is to be dropped. What the worker had found before is forgotten.
 pub fn replay<M: Mailbox, G: Guard>(
     alloc: Global,
     image: &mut Image<M>,
@@ -175,6 +183,7 @@ pub fn replay<M: Mailbox, G: Guard>(
 ) -> Result<usize, ReplayError>
     ensures { IfOk result (λ n. Replays image.old (lines_of text.now) n image.new) }
 {
+    worker.forget();
     let stopped = match redo_until(alloc, image, worker, text, until) {
         Ok(stopped) => stopped,
         Err(refused) => return Err(ReplayError::Line(refused)),

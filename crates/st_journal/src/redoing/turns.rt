@@ -3,6 +3,7 @@ ghost use Rattle.std.specs.Prelude.{◌≡◌, OnOk, IfErr, slice_get, true};
 ghost use Rattle.st_image.specs.Checkpoints.{BeginsAnew};
 ghost use Rattle.st_image.specs.Commits.{idle_at, steps_of};
 ghost use Rattle.st_image.specs.Images.{world};
+ghost use Rattle.st_image.specs.KeptEdits.{KeepsBeginning};
 ghost use Rattle.st_classes.specs.declared.refusals.Refusal.TheVariants.{NoMemory};
 ghost use Rattle.st_journal.specs.declared.entries.Entry.TheVariants as entry;
 ghost use Rattle.st_journal.specs.declared.redo_error.RedoError.TheVariants as error;
@@ -63,7 +64,8 @@ fn is_of(claim: &Claim, actor: ActorId, steps: u32) -> bool
     claim.actor() == actor && all == u64::from(steps)
 }
 
-/// Lets an actor that is in a turn take its steps again. The last of them may be one that the image takes.
+/// Lets an actor that is in a turn take its steps again. The last of them may be one that the image takes. The edits that the worker keeps
+/// are not compared with those of the image, nor are bodies.
 pub(super) fn run<M: Mailbox, G: Guard>(
     alloc: Global,
     image: &mut Image<M>,
@@ -71,8 +73,10 @@ pub(super) fn run<M: Mailbox, G: Guard>(
     actor: ActorId,
     steps: u32,
 ) -> Result<(), RedoError>
+    requires { KeepsBeginning (world image.old).edits worker.old }
     ensures ok { OnOk result (Does image.old (entry.Ran actor steps) image.new) }
     ensures err { IfErr result (λ e. RefusesSteps image.old actor steps e) }
+    ensures kept { KeepsBeginning (world image.old).edits worker.new }
 {
     let is_idle = is_idle_at(image, actor);
     if is_idle {
@@ -86,7 +90,8 @@ pub(super) fn run<M: Mailbox, G: Guard>(
         Ok(claim) => claim,
         Err(refusal) => return Err(RedoError::Refused(refusal)),
     };
-    let ran = worker.run(alloc, &mut claim, steps);
+    image.known();
+    let ran = worker.run_unchecked(alloc, &mut claim, steps);
     if !is_of(&claim, actor, steps) {
         image.release(claim);
         return match ran {
@@ -94,7 +99,7 @@ pub(super) fn run<M: Mailbox, G: Guard>(
             Err(_) => Err(RedoError::Refused(Refusal::NoMemory)),
         };
     }
-    match image.commit(alloc, claim) {
+    match image.commit_unchecked(alloc, claim) {
         Ok(_) => {
             image.known();
             Ok(())

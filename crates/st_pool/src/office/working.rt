@@ -219,9 +219,24 @@ impl<K: Naming, M: Mailbox> Office<K, M> {
         self.waiting.moves()
     }
 
-    /// Whether a worker may be asleep or rest.
+    /// Whether something has moved since there were so many moves, for which a worker that sleeps is to be woken: there is none if one looks
+    /// and is free, who is not from then on.
+    #[inline]
+    pub(crate) fn wakes_past(&mut self, moves: u64) -> bool
+        ensures { self.new ≡ self.old }
+    {
+        self.waiting.moves() != moves && !self.waiting.take_looker()
+    }
+
+    /// Whether something has moved since for which an actor is ready now, or the workers are to end.
+    pub(crate) fn has_work_past(&self, seen: u64) -> bool {
+        let is_still = self.waiting.is_still(seen);
+        !is_still && (self.waiting.is_stopped() || self.image.next_ready().is_some())
+    }
+
+    /// Whether a worker may be asleep, rest or look.
     pub(crate) fn has_idle(&self) -> bool {
-        self.waiting.has_sleepers() || self.waiting.has_resting()
+        self.waiting.has_sleepers() || self.waiting.has_resting() || self.waiting.has_looker()
     }
 
     /// Whether another worker than the one that asks neither sleeps nor rests.

@@ -1,7 +1,6 @@
-use Rattle.st_journal.proofs.Refusing.{define_refused}
+use Rattle.st_image.proofs.Following.{kept_none}
+use Rattle.st_image.specs.Images.{world}
 use Rattle.st_journal.proofs.redoing.redo.Goals as goal
 
-pub returns-in-Define-clause-err : goal.returns-in-Define-clause-err
-returns-in-Define-clause-err g c =
-    define_refused c.args.image.now c.args.entry.now c.in-Define.name c.as_slice-in-Define.result.now c.in-Define.parent c.in-Define.slots c.as_slice-in-Define-2.result.now c.define.result
-    c.in-Define.is c.as_slice-in-Define.ensures c.as_slice-in-Define-2.ensures c.define.ensures.err
+pub redo_next-requires : goal.redo_next-requires
+redo_next-requires g c = kept_none c.forget.new.self (world c.args.image.now).edits c.forget.ensures.kept

@@ -3,15 +3,15 @@ use Rattle.st_classes.specs.declared.refusals.Refusal.TheVariants.{NoMemory}
 use Rattle.st_turn.proofs.ClaimBeginnings.{step_began}
 use Rattle.std.specs.declared.alloc.AllocError.{AllocError}
 use Rattle.st_classes.specs.declared.refusals.Refusal.{Refusal}
+use Rattle.st_image.proofs.Following.{begins_same, kept_of_claim}
 use Rattle.st_system.proofs.ClaimsSeen.{began_same, steps_as, takes_none, takes_one}
-use Rattle.st_system.proofs.Seats.{begins_by, kept_of_claim}
 use Rattle.st_system.proofs.seat.take_one.Goals as goal
 
 pub returns-in-Ok-clause-takes : goal.returns-in-Ok-clause-takes
 returns-in-Ok-clause-takes g c = (Ok c.in-Ok.stop, refl, takes_one g.G.Guard.floor c.in-Ok.ensures.steps.0 c.step_unchecked.new.self c.args.claim.now c.step_unchecked.new.claim c.in-Ok.stop c.in-Ok.ensures.steps.2)
 
 pub returns-in-Ok-clause-kept : goal.returns-in-Ok-clause-kept
-returns-in-Ok-clause-kept g c = kept_of_claim c.step_unchecked.new.self c.step_unchecked.new.claim.edits c.step_unchecked.new.claim.edits c.in-Ok.ensures.stands.kept (begins_by c.step_unchecked.new.claim.edits c.step_unchecked.new.claim.edits refl)
+returns-in-Ok-clause-kept g c = kept_of_claim c.step_unchecked.new.self c.step_unchecked.new.claim.edits c.step_unchecked.new.claim.edits c.in-Ok.ensures.stands.kept (begins_same c.step_unchecked.new.claim.edits)
 
 pub returns-in-Err-clause-takes : goal.returns-in-Err-clause-takes
 returns-in-Err-clause-takes g c = (Err NoMemory, refl, takes_none c.args.claim.now c.step_unchecked.new.claim c.in-Err.ensures.steps.2)

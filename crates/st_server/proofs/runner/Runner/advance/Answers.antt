@@ -1,11 +1,12 @@
 use Rattle.std.proofs.Common.{Ok, subst}
 use Rattle.st_server.specs.Runners.{RunnerView, TakesQuantum}
-use Rattle.st_server.proofs.Claims.{claim_follows, settled_keeps}
+use Rattle.st_image.proofs.Following.{kept_claim}
+use Rattle.st_server.proofs.Claims.{settled_keeps}
 use Rattle.st_server.proofs.SomeSteps.{checkout_busy}
 use Rattle.st_server.proofs.runner.Runner.advance.Goals as goal
 
 pub work-result-requires-clause-follows : goal.work-result-requires-clause-follows
-work-result-requires-clause-follows c = claim_follows c.self.inside.image c.check_out.new.image c.args.actor c.in_ok-claim.claim c.self.inside.worker c.self.invariant c.in_ok-claim.ensures.takes.0.1
+work-result-requires-clause-follows c = kept_claim c.self.inside.image c.check_out.new.image c.args.actor c.in_ok-claim.claim c.self.inside.worker c.in_ok-claim.ensures.takes.0.1 c.self.invariant
 
 pub work-result-requires-clause-fits : goal.work-result-requires-clause-fits
 work-result-requires-clause-fits c = c.in_ok-claim.ensures.fits

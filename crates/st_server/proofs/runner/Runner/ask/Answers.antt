@@ -1,11 +1,12 @@
 use Rattle.std.proofs.Common.{subst}
+use Rattle.st_image.proofs.Following.{kept_later}
+use Rattle.st_image.specs.Images.{world}
 use Rattle.st_server.specs.CommandReplies.{AsksImage}
 use Rattle.st_server.specs.Runners.{RunnerView}
-use Rattle.st_server.proofs.Growing.{keeps_on}
 use Rattle.st_server.proofs.runner.Runner.ask.Goals as goal
 
 pub invariant_of-self : goal.invariant_of-self
-invariant_of-self c = keeps_on c.self.inside.image c.ask-reply.new.holder c.self.inside.worker c.self.invariant c.ask-reply.ensures.later.edits
+invariant_of-self c = kept_later c.self.inside.worker (world c.self.inside.image).edits (world c.ask-reply.new.holder).edits c.ask-reply.ensures.later.edits c.self.invariant
 
 pub returns-clause-asks : goal.returns-clause-asks
 returns-clause-asks c =

@@ -2,7 +2,7 @@ use Rattle.std.proofs.Common.{sym, subst}
 use Rattle.st_image.specs.Images.{world}
 use Rattle.st_image.specs.KeptEdits.{KeepsBeginning}
 use Rattle.st_system.specs.Seats.{SeatView}
-use Rattle.st_system.proofs.Seats.{kept_later}
+use Rattle.st_image.proofs.Following.{kept_later}
 use Rattle.st_system.proofs.seat.Seat.check_out.Goals as goal
 
 pub returns-clause-fits : goal.returns-clause-fits

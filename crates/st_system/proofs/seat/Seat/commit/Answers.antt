@@ -5,7 +5,7 @@ use Rattle.st_image.specs.Images.{world}
 use Rattle.st_image.specs.GoingOn.{FitsClaim}
 use Rattle.st_image.specs.KeptEdits.{KeepsBeginning}
 use Rattle.st_system.specs.Seats.{SeatView}
-use Rattle.st_system.proofs.Seats.{kept_later}
+use Rattle.st_image.proofs.Following.{kept_later}
 use Rattle.st_system.proofs.seat.Seat.commit.Goals as goal
 
 pub returns-in-Ok-clause-fits : goal.returns-in-Ok-clause-fits

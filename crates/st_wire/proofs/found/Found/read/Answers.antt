@@ -61,3 +61,31 @@ returns-in_ok-read_whole-in-turn-clause-read c =
     let g : Found = record f { count = f.count + 1; turn = c.keep-in-turn.new.place } in
     let key : c.args.key.now ≡ codes "turn" = search rules in
     on_ok_weaker c.keep-in-turn.result (λ h. (number (unsigned c.in_ok-read_whole-in-turn.field-0), c.in_ok-read_whole-in-turn.ensures.read 126, λ ms found. whole_kept f g c.args.key.now (codes "turn") ms key refl (λ q e. rw e) f.turn c.keep-in-turn.new.place c.in_ok-read_whole-in-turn.field-0 refl refl h found)) c.keep-in-turn.ensures
+
+pub returns-in_ok-read_text-in-class-clause-read : goal.returns-in_ok-read_text-in-class-clause-read
+returns-in_ok-read_text-in-class-clause-read c =
+    let f = c.args.self.now in
+    let g : Found = record f { count = f.count + 1; class = c.keep-in-class.new.place } in
+    let key : c.args.key.now ≡ codes "class" = search rules in
+    on_ok_weaker c.keep-in-class.result (λ h. (string c.in_ok-read_text-in-class.field-0.now, c.in_ok-read_text-in-class.ensures.read 126, λ ms found. text_kept f g c.args.key.now (codes "class") ms key refl (λ q e. rw e) f.class c.keep-in-class.new.place c.in_ok-read_text-in-class.field-0 refl refl h found)) c.keep-in-class.ensures
+
+pub returns-in_ok-read_text-in-epoch-clause-read : goal.returns-in_ok-read_text-in-epoch-clause-read
+returns-in_ok-read_text-in-epoch-clause-read c =
+    let f = c.args.self.now in
+    let g : Found = record f { count = f.count + 1; epoch = c.keep-in-epoch.new.place } in
+    let key : c.args.key.now ≡ codes "epoch" = search rules in
+    on_ok_weaker c.keep-in-epoch.result (λ h. (string c.in_ok-read_text-in-epoch.field-0.now, c.in_ok-read_text-in-epoch.ensures.read 126, λ ms found. text_kept f g c.args.key.now (codes "epoch") ms key refl (λ q e. rw e) f.epoch c.keep-in-epoch.new.place c.in_ok-read_text-in-epoch.field-0 refl refl h found)) c.keep-in-epoch.ensures
+
+pub returns-in_ok-read_text-in-source-clause-read : goal.returns-in_ok-read_text-in-source-clause-read
+returns-in_ok-read_text-in-source-clause-read c =
+    let f = c.args.self.now in
+    let g : Found = record f { count = f.count + 1; source = c.keep-in-source.new.place } in
+    let key : c.args.key.now ≡ codes "source" = search rules in
+    on_ok_weaker c.keep-in-source.result (λ h. (string c.in_ok-read_text-in-source.field-0.now, c.in_ok-read_text-in-source.ensures.read 126, λ ms found. text_kept f g c.args.key.now (codes "source") ms key refl (λ q e. rw e) f.source c.keep-in-source.new.place c.in_ok-read_text-in-source.field-0 refl refl h found)) c.keep-in-source.ensures
+
+pub returns-in_ok-read_whole-in-ms-clause-read : goal.returns-in_ok-read_whole-in-ms-clause-read
+returns-in_ok-read_whole-in-ms-clause-read c =
+    let f = c.args.self.now in
+    let g : Found = record f { count = f.count + 1; ms = c.keep-in-ms.new.place } in
+    let key : c.args.key.now ≡ codes "ms" = search rules in
+    on_ok_weaker c.keep-in-ms.result (λ h. (number (unsigned c.in_ok-read_whole-in-ms.field-0), c.in_ok-read_whole-in-ms.ensures.read 126, λ ms found. whole_kept f g c.args.key.now (codes "ms") ms key refl (λ q e. rw e) f.ms c.keep-in-ms.new.place c.in_ok-read_whole-in-ms.field-0 refl refl h found)) c.keep-in-ms.ensures

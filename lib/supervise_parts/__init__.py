@@ -1,0 +1,1 @@
+"""Has checkpoints of a server that bin/supervise has started."""

@@ -43,10 +43,14 @@ class Stats:
         others, self.turn = self.turn[:room], self.turn[room:]
         self.ask(dict.fromkeys(old + others), tick)
 
-    def sites(self, method):
-        """The sites that were told last of the present version of a method; none if it was not asked for yet."""
+    def known(self, method):
+        """The sites that were told last of the present version of a method; `None` if it was not asked for yet."""
         source, told = self.kept.source(*method), self.told.get(method)
-        return told[1] if source and told and told[0] == source[1] else []
+        return told[1] if source and told and told[0] == source[1] else None
+
+    def sites(self, method):
+        """As `known`, and none of a method that was not asked for yet."""
+        return self.known(method) or []
 
     def heat(self):
         """How often the methods of each class have sent, as far as it was asked for."""
@@ -56,5 +60,6 @@ class Stats:
         return found
 
     def shapes(self, methods):
-        """The kinds of the sites of each method."""
-        return {f"{name} {selector}": [kind_of(it) for it in self.sites((name, selector))] for name, selector in methods}
+        """The kinds of the sites of each method that was asked for."""
+        known = {it: self.known(it) for it in methods}
+        return {f"{name} {selector}": [kind_of(it) for it in sites] for (name, selector), sites in known.items() if sites is not None}

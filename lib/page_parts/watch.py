@@ -230,7 +230,7 @@ class Watch:
             if view.get("class"):
                 told["shapes"] = self.stats.shapes(self.listed(view["class"]))
             if view.get("method"):
-                told["sites"] = self.sites(tuple(view["method"]))
+                told.update(self.sites(tuple(view["method"])))
         if view.get("view") == "actors" and view.get("actor") is not None:
             told["inspected"] = self.inspected(view["actor"], view.get("object", 0))
         if view.get("view") == "pictures":
@@ -240,12 +240,15 @@ class Watch:
         return told
 
     def sites(self, method):
-        source = self.kept.source(*method)
+        """The sites of the method in sight, or that it is gone; nothing until the image told of them."""
+        with self.kept.lock:
+            source, known = self.kept.source(*method), self.stats.known(method)
+        told = {"class": method[0], "selector": method[1], "version": source[1] if source else 0}
         if not source:
-            return {"class": method[0], "selector": method[1], "version": 0}
-        sites = sites_of(source[0], self.stats.sites(method))
-        return {"class": method[0], "selector": method[1], "version": source[1], "sites": sites,
-            "running": len(running(self.rows, *method))}
+            return {"sites": told}
+        if known is None:
+            return {}
+        return {"sites": {**told, "sites": sites_of(source[0], known), "running": len(running(self.rows, *method))}}
 
     def inspected(self, number, place):
         """The actor in sight; nothing but its number where there is none."""

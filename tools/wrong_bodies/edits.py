@@ -154,8 +154,8 @@ def write(path, text):
         file.write(text)
 
 
-def function_of(edit, crate):
-    """The module and the function in which an edit changes something."""
+def place_of(edit, crate):
+    """The module, the type or nothing, and the function or nothing in which an edit changes something."""
     path, old, _ = changes_of(edit)[0]
     before = read(f"{crate}/{path}").split(old)[0]
     module = path.removeprefix("src/").removesuffix(".rt").replace("/", "::")
@@ -164,6 +164,19 @@ def function_of(edit, crate):
     inside = re.search(r"^ +(?:pub(?:\(crate\))? )?(?:const )?fn \w+(?![\s\S]*^\}$)", before, re.M)
     impls = re.findall(r"^impl(?:<[^>]*>)? (?:\w+(?:<[^>]*>)? for )?(\w+)", before[end + 1 :], re.M)
     if not functions or (end > before.rfind("fn ") and not re.search(r"\bfn ", before[end:] + old)):
+        return module, "", ""
+    return module, impls[-1] if inside and impls else "", functions[-1]
+
+
+def function_of(edit, crate):
+    """That place as a page says it."""
+    module, owner, function = place_of(edit, crate)
+    if not function:
         return f"`{module}`: (constants)"
-    owner = f"{impls[-1]}::" if inside and impls else ""
-    return f"`{module}`: `{owner}{functions[-1]}`"
+    return f"`{module}`: `{owner}::{function}`" if owner else f"`{module}`: `{function}`"
+
+
+def path_of(edit, crate):
+    """The end of the path by which `rt check --only` knows the function, or None where an edit changes no function."""
+    module, owner, function = place_of(edit, crate)
+    return f"{owner or module.rpartition('::')[2]}::{function}" if function else None

@@ -7,7 +7,7 @@ import subprocess
 import tempfile
 
 from common.repository import TOP
-from wrong_bodies.edits import apply, by_of, crates_of, test_of, trial_of
+from wrong_bodies.edits import apply, by_of, crates_of, path_of, test_of, trial_of
 from wrong_bodies.program import build
 
 # What a check says where a stored proof no longer fits the code: that shows nothing about the clauses.
@@ -50,12 +50,19 @@ def goals_of(lines):
 
 
 def by_the_prover(edit, crate):
-    """Whether the prover refuses the crate in a folder with an edit by a clause, what refuses it, and what it said."""
+    """Whether the prover refuses the crate in a folder with an edit by a clause, what refuses it, and what it said. The function that is
+    edited is tried alone first, and the crate where nothing of that is refused."""
+    path = path_of(edit, crate)
     back = apply(edit, crate)
     try:
-        ended = run(["rt", "check", "--jobs", "1"], crate)
+        refused = path and verdict_of(run(["rt", "check", "--jobs", "1", "--only", path], crate))
+        return refused if refused and refused[0] else verdict_of(run(["rt", "check", "--jobs", "1"], crate))
     finally:
         back()
+
+
+def verdict_of(ended):
+    """What a check that has ended shows of an edit, as `by_the_prover` says it."""
     lines = ended.stdout.rstrip("\n").split("\n")
     told = [line for line in lines if re.match(r"(note: )?(\./)?\w+/\S+:\d+:\d+: ", line) or re.match(r"fn \S+: (not proved|no proof)", line)]
     if ended.returncode == 0:

@@ -1,1 +1,1 @@
-pub mod LoadedAnew
+pub mod BegunAnew

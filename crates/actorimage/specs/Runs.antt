@@ -5,11 +5,6 @@ use Rattle.st_classes.specs.declared.refusals.Refusal.TheVariants.{NoMemory}
 use Rattle.st_image.specs.declared.settings.Settings.{Settings}
 use Rattle.st_image.specs.Images.{ImageView, new_image}
 
--- what a run finds in a file: the image that was loaded, or the refusal of the file
-abbrev pub found_as : Result ImageView Refusal → Result (Option ImageView) Refusal
-found_as (Ok i) = Ok (Some i)
-found_as (Err e) = Err e
-
 -- a new image with the default settings and an empty history; or memory ran out
 abbrev pub IsNew : Result ImageView Refusal → Type 0
 IsNew (Ok i) = i ≡ new_image record { capacity = 64; history = 1000000 }

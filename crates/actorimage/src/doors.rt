@@ -1,6 +1,6 @@
 //! Who stands at the door of the program's server, and who is told of its sessions' ends.
-use crate::socket_files::SocketFile;
 use st_classes::refusals::Refusal;
+use st_disk::socket_files::SocketFile;
 use st_server::porters::{FaultList, Porter, Witness};
 use st_wire::names::refusal_name;
 use std::fs::Files;

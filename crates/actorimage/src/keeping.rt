@@ -2,12 +2,12 @@
 ghost use Rattle.std.specs.Prelude.{IfOk, Ok};
 ghost use Rattle.st_server.specs.Keepers.{IsFault, Keeps};
 
-use crate::failures::Failure;
-use crate::journals::Journal;
-use crate::new_files::{NewFile, hold, hold_beside};
 use crate::noting::Noted;
-use crate::stamps::Stamp;
 use st_classes::refusals::Refusal;
+use st_disk::failures::Failure;
+use st_disk::journals::Journal;
+use st_disk::new_files::{NewFile, hold, hold_beside};
+use st_disk::stamps::Stamp;
 use st_file::moments::Moment;
 use st_server::images::Image;
 use st_server::keepers::{JournalSettings, JournalWriter, Keeper};

@@ -1,13 +1,13 @@
 //! The image with which a run begins that has hold of its file, and what keeps it.
-use crate::failures::Failure;
-use crate::image_files::{Opened, digest_of_file, load_file, path_of};
-use crate::journal_files::is_there;
-use crate::journals::{Found, Journal, journal_of, journal_of_another_image, refuse_journal};
 use crate::keeping::FileKeeper;
-use crate::new_files::NewFile;
 use crate::options::Keeping;
 use crate::runs::begin_with;
 use st_classes::refusals::{ImagePlace, Refusal};
+use st_disk::failures::Failure;
+use st_disk::image_files::{Opened, digest_of_file, load_file, path_of};
+use st_disk::journal_files::is_there;
+use st_disk::journals::{Found, Journal, journal_of, journal_of_another_image, refuse_journal};
+use st_disk::new_files::NewFile;
 use st_journal::redo_error::{LineError, RedoError, RefusedLine};
 use st_server::images::Image;
 use st_server::keepers::JournalSettings;

@@ -3,29 +3,17 @@
 
 ghost use Rattle.std.specs.Prelude.{◌≡◌, [], IfOk};
 
-mod digests;
 mod doors;
-mod failures;
-mod image_files;
-mod journal_files;
-mod journals;
 mod keeping;
 mod loading;
-mod new_files;
 mod noting;
 mod options;
 mod replaying;
 mod runs;
-mod socket_files;
-mod stamps;
 
 use crate::doors::{Doorkeeper, Reporter};
-use crate::failures::Failure;
-use crate::image_files::{Opened, Place, Unreadable, load_file, open_file, path_of};
-use crate::journals::refuse_journal;
 use crate::keeping::FileKeeper;
 use crate::loading::begin_keeping;
-use crate::new_files::{NewFile, hold, place_of};
 use crate::noting::NotedOutput;
 use crate::options::{
     Keeping, ReplayOptions, Request, ScriptOptions, ServeOptions, invalid_utf8_error,
@@ -33,10 +21,14 @@ use crate::options::{
 };
 use crate::replaying::{replayed, save_at};
 use crate::runs::{begin_with, saved_at};
-use crate::socket_files::{SocketFile, bind, refuse_taken};
 use boxcar::Vec as Faults;
 use clap::Error;
 use st_classes::refusals::Refusal;
+use st_disk::failures::Failure;
+use st_disk::image_files::{Opened, Place, Unreadable, load_file, open_file, path_of};
+use st_disk::journals::refuse_journal;
+use st_disk::new_files::{NewFile, hold, place_of};
+use st_disk::socket_files::{SocketFile, bind, refuse_taken};
 use st_pool::totals::Totals;
 use st_server::checking::check_on;
 use st_server::images::Image;

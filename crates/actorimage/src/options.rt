@@ -1,9 +1,9 @@
 //! The command line.
 ghost use Rattle.std.specs.Prelude.{◌≡◌, unwrap_or};
 
-use crate::image_files::Place;
 use clap::error::ErrorKind;
 use clap::{Arg, ArgAction, ArgMatches, Command, Error, value_parser};
+use st_disk::image_files::Place;
 use st_journal::redoing::replaying::Until;
 use st_server::keepers::JournalSettings;
 use st_server::settings::ScriptSettings;

@@ -1,13 +1,13 @@
 //! Images that were: an image's file, and the beginning of what its journal tells. Both stay as they are.
-use crate::failures::Failure;
-use crate::image_files::{Opened, Place, digest_of_file, open_file};
-use crate::journal_files::{is_there, open_to_read, read_whole};
-use crate::journals::{header_of, journal_of, journal_of_another_image};
 use crate::keeping::FileKeeper;
 use crate::loading::{loaded, refused_line};
-use crate::new_files::place_of;
 use crate::options::ReplayOptions;
 use st_classes::refusals::{ImagePlace, Refusal};
+use st_disk::failures::Failure;
+use st_disk::image_files::{Opened, Place, digest_of_file, open_file};
+use st_disk::journal_files::{is_there, open_to_read, read_whole};
+use st_disk::journals::{header_of, journal_of, journal_of_another_image};
+use st_disk::new_files::place_of;
 use st_journal::redo_error::RedoError;
 use st_journal::redoing::replaying::{ReplayError, Until};
 use st_log::lines::whole_len;

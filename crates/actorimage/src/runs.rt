@@ -8,16 +8,6 @@ use st_image::settings::Settings;
 use st_server::images::Image;
 use std::alloc::Global;
 
-/// What a run finds in a file: the image that was loaded from it, or why it was refused.
-pub fn found_as(loaded: Result<Image, Refusal>) -> Result<Option<Image>, Refusal>
-    ensures { result ≡ spec.found_as loaded }
-{
-    match loaded {
-        Ok(image) => Ok(Some(image)),
-        Err(refused) => Err(refused),
-    }
-}
-
 /// The image with which a run begins: the one that was found in a file, or else a new one. If the file was refused, the run does
 /// not begin.
 pub fn begin_with(alloc: Global, found: Result<Option<Image>, Refusal>) -> Result<Image, Refusal>

@@ -1,5 +1,5 @@
 -- An image as texts, and how its file is written.
-use Rattle.std.specs.Prelude.{◌≡◌, ◌≤◌, ◌⊎◌, ℕ, false, List, [], ◌∷◌, ◌++◌, codes, true, Some, Result, Ok, Err, drop, map}
+use Rattle.std.specs.Prelude.{◌≡◌, ◌≤◌, ◌⊎◌, ℕ, false, List, [], ◌∷◌, ◌++◌, codes, true, Some, Result, Ok, Err, drop, length, map}
 use mathlib.Core.List.{IsPrefix}
 use Rattle.serde_json.specs.Data.{Data, depth}
 use Rattle.serde_json.specs.Read.{read}
@@ -59,6 +59,10 @@ pub record IsLineOf (v : Data) (text : List ℕ) : Type 0 where
 -- a text is that of an image's file: the line of the image's document
 abbrev pub IsFileOf : MomentView → List ℕ → Type 0
 IsFileOf m text = (v : Data) × IsDocument v m × IsLineOf v text
+
+-- such a text has so many bytes
+abbrev pub HasFileOf : MomentView → ℕ → Type 0
+HasFileOf m n = (text : List ℕ) × IsFileOf m text × (n ≡ length text)
 
 -- a value is what is written of an image at a moment: the image's document, whose text is read as it; it nests nine deep at most and has
 -- no float

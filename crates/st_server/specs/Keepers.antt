@@ -1,9 +1,9 @@
 -- The reply to one who wants an image saved.
-use Rattle.std.specs.Prelude.{◌≡◌, ◌⊎◌, ℕ, List, length, Result, Ok, Err}
+use Rattle.std.specs.Prelude.{◌≡◌, ◌⊎◌, ℕ, Result, Ok, Err}
 use Rattle.st_classes.specs.declared.refusals.Refusal.{Refusal}
 use Rattle.st_classes.specs.declared.refusals.Refusal.TheVariants.{BadArguments, NoMemory, WriteFault}
 use Rattle.st_file.specs.Moments.{MomentView}
-use Rattle.st_file.specs.Saving.{IsFileOf}
+use Rattle.st_file.specs.Saving.{HasFileOf}
 use Rattle.st_wire.specs.declared.replies.Reply.{Reply}
 use Rattle.st_wire.specs.declared.replies.Reply.TheVariants as reply
 
@@ -13,7 +13,7 @@ IsFault e = (e ≡ NoMemory) ⊎ (e ≡ WriteFault)
 
 -- an image is kept as it was at a moment, in a file of so many bytes; or why it is not
 abbrev pub Keeps : MomentView → Result ℕ Refusal → Type 0
-Keeps m (Ok n) = (text : List ℕ) × IsFileOf m text × (n ≡ length text)
+Keeps m (Ok n) = HasFileOf m n
 Keeps m (Err e) = (e ≡ BadArguments) ⊎ IsFault e
 
 -- the reply says so

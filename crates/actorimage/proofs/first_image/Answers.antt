@@ -1,4 +1,4 @@
-use Rattle.actorimage.proofs.LoadedAnew.{begins_anew}
+use Rattle.actorimage.proofs.BegunAnew.{begins_anew}
 use Rattle.actorimage.proofs.first_image.Goals as goal
 
 pub returns : goal.returns

@@ -1,6 +1,6 @@
 //! The new file beside an image's file. It is held by a lock, gets the text, and takes the old file's place.
-ghost use Rattle.std.specs.Prelude.{IfOk, Ok};
-ghost use Rattle.st_server.specs.Keepers.{Keeps};
+ghost use Rattle.std.specs.Prelude.{IfOk};
+ghost use Rattle.st_file.specs.Saving.{HasFileOf};
 
 use crate::digests::WrittenDigest;
 use crate::failures::Failure;
@@ -210,7 +210,7 @@ fn write_image(
     path: &str,
     moment: &Moment,
 ) -> Result<(u64, String), Failure>
-    ensures { IfOk result (λ r. Keeps moment.now (Ok r.0)) }
+    ensures { IfOk result (λ r. HasFileOf moment.now r.0) }
 {
     let mut output = WrittenDigest::new(Written { file, error: None });
     let saved = save_moment(alloc, moment, &mut Writer::new(&mut output));
@@ -275,7 +275,7 @@ impl NewFile {
         alloc: Global,
         moment: &Moment,
     ) -> Result<(u64, String), Failure>
-        ensures { IfOk result (λ r. Keeps moment.now (Ok r.0)) }
+        ensures { IfOk result (λ r. HasFileOf moment.now r.0) }
     {
         let place = self.place.as_str();
         if let Err(error) = self.file.set_len(0) {
@@ -354,7 +354,7 @@ impl NewFile {
         alloc: Global,
         moment: &Moment,
     ) -> Result<(u64, String), Failure>
-        ensures { IfOk result (λ r. Keeps moment.now (Ok r.0)) }
+        ensures { IfOk result (λ r. HasFileOf moment.now r.0) }
     {
         if !self.is_there(rt) {
             self.file = held(rt, alloc, self.path.as_str(), self.place.as_str())?;

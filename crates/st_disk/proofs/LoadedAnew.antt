@@ -1,10 +1,10 @@
--- Nothing has happened in an image that was loaded, nor in one that a run begins with.
-use Rattle.std.proofs.Common.{◌≡◌, [], Option, Some, None, Result, Ok, Err, IfOk, IfSome, inl, inr, sym, ap, subst}
+-- Nothing has happened in an image that was loaded.
+use Rattle.std.proofs.Common.{◌≡◌, [], Option, Some, None, Result, Ok, Err, IfOk, IfSome, inl, inr, ap}
 use Rattle.st_classes.specs.declared.refusals.Refusal.{Refusal}
 use Rattle.st_image.specs.Images.{ImageView}
 use Rattle.st_wire.specs.Streams.{InputView}
 use Rattle.st_file.specs.Files.{LoadsFile}
-use Rattle.actorimage.specs.Runs.{BeginsWith, found_as}
+use Rattle.st_disk.specs.FoundImages.{found_as}
 
 pub loaded_anew : (before after : InputView) (r : Result ImageView Refusal) → LoadsFile before after r → IfOk r (λ i. i.history ≡ [])
 loaded_anew before after (Ok i) (inl (text, gives, inl (v, is, loads))) = ap (λ (j : ImageView). j.history) loads.1
@@ -16,10 +16,3 @@ loaded_anew before after (Err e) h = tt
 pub found_anew : (r : Result ImageView Refusal) → IfOk r (λ i. i.history ≡ []) → IfOk (found_as r) (λ f. IfSome f (λ i. i.history ≡ []))
 found_anew (Ok i) h = h
 found_anew (Err e) h = tt
-
-pub begins_anew : (found : Result (Option ImageView) Refusal) (first : Result ImageView Refusal) → IfOk found (λ f. IfSome f (λ i. i.history ≡ [])) → BeginsWith found first
-    → IfOk first (λ i. i.history ≡ [])
-begins_anew (Ok (Some i)) first h is = subst (λ (r : Result ImageView Refusal). IfOk r (λ j. j.history ≡ [])) (sym is) h
-begins_anew (Ok None) (Ok i) h is = ap (λ (j : ImageView). j.history) is
-begins_anew (Ok None) (Err e) h is = tt
-begins_anew (Err e) first h is = subst (λ (r : Result ImageView Refusal). IfOk r (λ j. j.history ≡ [])) (sym is) tt

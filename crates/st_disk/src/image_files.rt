@@ -4,16 +4,16 @@ ghost use Rattle.st_classes.specs.declared.refusals.Refusal.{Refusal as RefusalO
 ghost use Rattle.st_image.specs.Images.{ImageView};
 ghost use Rattle.st_wire.specs.Streams.{input_view};
 ghost use Rattle.st_file.specs.Files.{LoadsFile};
-ghost use Rattle.actorimage.specs.Runs as spec;
+ghost use Rattle.st_disk.specs.FoundImages as spec;
 
 use crate::digests::digest_of;
 use crate::failures::Failure;
 use crate::new_files::HELD_BY_ANOTHER;
-use crate::runs::found_as;
 use crate::stamps::Stamp;
 use st_classes::refusals::Refusal;
 use st_file::files::load;
-use st_server::images::Image;
+use st_image::image::Image;
+use st_mailbox::mailboxes::Mailbox;
 use st_wire::streams::{Input, Reader};
 use std::alloc::Global;
 use std::fs::{self, File, Files, TryLockError};
@@ -29,20 +29,33 @@ impl Read for Unreadable {
     }
 }
 
-/// The image that a run finds in the input of a file, with an empty history, or why the file is refused.
-fn found_in<I: Input>(alloc: Global, input: &mut I) -> Result<Option<Image>, Refusal>
+/// What is found in a file: the image that was loaded from it, or why it was refused.
+fn found_as<M: Mailbox>(loaded: Result<Image<M>, Refusal>) -> Result<Option<Image<M>>, Refusal>
+    ensures { result ≡ spec.found_as loaded }
+{
+    match loaded {
+        Ok(image) => Ok(Some(image)),
+        Err(refused) => Err(refused),
+    }
+}
+
+/// The image that is found in the input of a file, with an empty history, or why the file is refused.
+fn found_in<M: Mailbox, I: Input>(alloc: Global, input: &mut I) -> Result<Option<Image<M>>, Refusal>
     ensures loaded { let before = input_view I.remaining I.failures I.reads input.old in
         let after = input_view I.remaining I.failures I.reads input.new in
         (loaded : Result ImageView RefusalOf) × LoadsFile before after loaded × (result ≡ spec.found_as loaded) }
     ensures anew { IfOk result (λ found. IfSome found (λ i. i.history ≡ [])) }
 {
-    let loaded: Result<Image, Refusal> = load(alloc, input);
+    let loaded: Result<Image<M>, Refusal> = load(alloc, input);
     found_as(loaded)
 }
 
 /// The image of a file, or none if there is no file. `ReadFault` says that the file cannot be read, and `BadImage` that it holds no
 /// image.
-pub fn load_file(alloc: Global, file: Option<&File>) -> Result<Option<Image>, Refusal>
+pub fn load_file<M: Mailbox>(
+    alloc: Global,
+    file: Option<&File>,
+) -> Result<Option<Image<M>>, Refusal>
     ensures { IfOk result (λ found. IfSome found (λ i. i.history ≡ [])) }
 {
     match file {

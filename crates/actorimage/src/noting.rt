@@ -2,15 +2,15 @@
 use crate::keeping::FileKeeper;
 use st_classes::refusals::Refusal;
 use st_server::images::Image;
+use st_server::journal_batch::JournalBatch;
 use st_server::keepers::JournalWriter;
-use st_server::telling::Telling;
 use std::alloc::Global;
 use std::io::{self, ErrorKind, Write};
 
 /// What is told of the image of a script.
 #[derive(Drop)]
 pub struct Noted {
-    telling: Telling,
+    batch: JournalBatch,
     /// Whether something could not be told.
     has_failed: bool,
 }
@@ -19,21 +19,21 @@ impl Noted {
     /// All that there is of an image is told.
     pub fn new(alloc: Global, image: &Image) -> Noted {
         Noted {
-            telling: Telling::new(alloc, image.names().len(), image.history().len()),
+            batch: JournalBatch::new(alloc, image.names().len(), image.history().len()),
             has_failed: false,
         }
     }
 
     /// Tells what there is of an image and is not told.
     pub fn note<W: JournalWriter>(&mut self, alloc: Global, journal: &W, image: &Image) {
-        if self.telling.tell_image(alloc, journal, image).is_err() {
+        if self.batch.tell_image(alloc, journal, image).is_err() {
             self.has_failed = true;
         }
     }
 
     /// Tells that the image has had a checkpoint.
     pub fn note_checkpoint(&mut self, alloc: Global, image: &Image) {
-        if self.telling.tell_emptied(alloc, image).is_err() {
+        if self.batch.tell_emptied(alloc, image).is_err() {
             self.has_failed = true;
         }
     }
@@ -43,7 +43,7 @@ impl Noted {
         if self.has_failed {
             return Err(Refusal::WriteFault);
         }
-        self.telling.write(alloc, journal)
+        self.batch.write(alloc, journal)
     }
 }
 

@@ -7,7 +7,7 @@ use prog.Atomic.{either}
 use Rattle.logbook.specs.Pages.{Cell, cell, keeps, no_nib, step, Moves, Goes}
 use Rattle.st_image.specs.Images.{ImageView}
 use Rattle.st_pool.specs.Seen.{Adds, Along, IsKept, MayFollow}
-use Rattle.st_pool.proofs.Fronts.{along_more, prefix_whole}
+use Rattle.st_pool.proofs.KnownPrefixes.{along_more, prefix_whole}
 
 abbrev pub shown : List ImageView → List ImageView
 shown log = []

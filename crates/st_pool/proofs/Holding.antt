@@ -9,56 +9,56 @@ use Rattle.st_calls.specs.Does.{Does, told}
 use Rattle.st_turn.specs.Claims.{ClaimView}
 use Rattle.st_image.specs.Images.{ImageView}
 use Rattle.st_calls.specs.Growth.{committed}
-use Rattle.st_pool.specs.declared.office.working.Work.{Work}
-use Rattle.st_pool.specs.declared.office.working.Work.TheVariants.{Stop, Wait, Turn}
+use Rattle.st_pool.specs.declared.pool_state.working.Work.{Work}
+use Rattle.st_pool.specs.declared.pool_state.working.Work.TheVariants.{Stop, Wait, Turn}
 use Rattle.st_pool.specs.Books.{BooksView, no_books}
 use Rattle.st_pool.specs.Calling.{booked}
-use Rattle.st_pool.specs.Done.{OfficeView, Takes, TurnsOver, takes_more}
+use Rattle.st_pool.specs.Done.{PoolView, Takes, TurnsOver, takes_more}
 use Rattle.st_pool.specs.Holds.{Event, called, employed, given, handed, settled, any, Happen, Happens, IsHold, IsRun, of_worker, opened}
 
-happen_then : (kind : Event → Bool) (o m p : OfficeView) (es fs : List Event) → Happen kind o es m → Happen kind m fs p → Happen kind o (es ++ fs) p
-happen_then kind o m p [] fs h k = subst (λ (x : OfficeView). Happen kind x fs p) h k
+happen_then : (kind : Event → Bool) (o m p : PoolView) (es fs : List Event) → Happen kind o es m → Happen kind m fs p → Happen kind o (es ++ fs) p
+happen_then kind o m p [] fs h k = subst (λ (x : PoolView). Happen kind x fs p) h k
 happen_then kind o m p (e ∷ es) fs h k = (h.0, (h.1.0, h.1.1, happen_then kind h.1.0 m p es fs h.1.2 k))
 
-pub hold_none : (kind : Event → Bool) (o p : OfficeView) → p ≡ o → IsHold kind o p
+pub hold_none : (kind : Event → Bool) (o p : PoolView) → p ≡ o → IsHold kind o p
 hold_none kind o p h = record { events = []; happen = h }
 
-pub hold_one : (kind : Event → Bool) (o p : OfficeView) (e : Event) → kind e ≡ true → Happens o e p → IsHold kind o p
+pub hold_one : (kind : Event → Bool) (o p : PoolView) (e : Event) → kind e ≡ true → Happens o e p → IsHold kind o p
 hold_one kind o p e is h = record { events = e ∷ []; happen = (is, (p, h, refl)) }
 
-pub hold_then : (kind : Event → Bool) (o m p : OfficeView) → IsHold kind o m → IsHold kind m p → IsHold kind o p
+pub hold_then : (kind : Event → Bool) (o m p : PoolView) → IsHold kind o m → IsHold kind m p → IsHold kind o p
 hold_then kind o m p h k = record { events = h.events ++ k.events; happen = happen_then kind o m p h.events k.events h.happen k.happen }
 
-pub same_office : (o p : OfficeView) → p.image ≡ o.image → p.books ≡ o.books → p ≡ o
-same_office o p i b = ap₂ (λ (x : ImageView) (y : BooksView). let q : OfficeView = record { image = x; books = y } in q) i b
+pub same_pool : (o p : PoolView) → p.image ≡ o.image → p.books ≡ o.books → p ≡ o
+same_pool o p i b = ap₂ (λ (x : ImageView) (y : BooksView). let q : PoolView = record { image = x; books = y } in q) i b
 
 -- what a worker finds is a hold
-pub takes_hold : (o p : OfficeView) (w : Work ClaimView) → Takes o.image w p.image → p.books ≡ o.books → IsHold of_worker o p
-takes_hold o p Stop h b = hold_none of_worker o p (same_office o p h b)
-takes_hold o p (Wait moves) h b = hold_none of_worker o p (same_office o p h.0 b)
+pub takes_hold : (o p : PoolView) (w : Work ClaimView) → Takes o.image w p.image → p.books ≡ o.books → IsHold of_worker o p
+takes_hold o p Stop h b = hold_none of_worker o p (same_pool o p h b)
+takes_hold o p (Wait moves) h b = hold_none of_worker o p (same_pool o p h.0 b)
 takes_hold o p (Turn c) h b = hold_one of_worker o p (handed h.0 (Ok c)) refl (h.2, b)
 
-after : (o m p : OfficeView) (b : Bool) (w : Work ClaimView) → MatchBool b (Takes m.image w p.image) ((moves : ℕ) × (w ≡ Wait moves) × (p.image ≡ m.image)) → p.books ≡ m.books → IsHold of_worker m p
+after : (o m p : PoolView) (b : Bool) (w : Work ClaimView) → MatchBool b (Takes m.image w p.image) ((moves : ℕ) × (w ≡ Wait moves) × (p.image ≡ m.image)) → p.books ≡ m.books → IsHold of_worker m p
 after o m p true w h b = takes_hold m p w h b
-after o m p false w h b = hold_none of_worker m p (same_office m p h.2 b)
+after o m p false w h b = hold_none of_worker m p (same_pool m p h.2 b)
 
 -- so is the end of a quantum
-pub turns_hold : (o p : OfficeView) (c : ClaimView) (starved : Bool) (r : Result ℕ Refusal) (w : Work ClaimView) → TurnsOver o.image c starved r w p.image → p.books ≡ record o.books { steps = o.books.steps + committed r } → IsHold of_worker o p
+pub turns_hold : (o p : PoolView) (c : ClaimView) (starved : Bool) (r : Result ℕ Refusal) (w : Work ClaimView) → TurnsOver o.image c starved r w p.image → p.books ≡ record o.books { steps = o.books.steps + committed r } → IsHold of_worker o p
 turns_hold o p c starved r w h b =
-    let m : OfficeView = record { image = h.between; books = record o.books { steps = o.books.steps + committed r } } in
+    let m : PoolView = record { image = h.between; books = record o.books { steps = o.books.steps + committed r } } in
     hold_then of_worker o m p (hold_one of_worker o m (settled c r) refl (h.settles, refl)) (after o m p (takes_more starved r) w h.next b)
 
 -- ---- all that has happened
 
-abbrev at : ImageView → BooksView → OfficeView
+abbrev at : ImageView → BooksView → PoolView
 at i b = record { image = i; books = b }
 
 -- nothing has
 pub run_begins : (first i : ImageView) (b : BooksView) → first ≡ i → b ≡ no_books → IsRun first (at i b)
-run_begins first i b is none = hold_none any (opened first) (at i b) (same_office (opened first) (at i b) (sym is) none)
+run_begins first i b is none = hold_none any (opened first) (at i b) (same_pool (opened first) (at i b) (sym is) none)
 
 -- and one event more
-pub run_then : (first : ImageView) (o p : OfficeView) (e : Event) → IsRun first o → Happens o e p → IsRun first p
+pub run_then : (first : ImageView) (o p : PoolView) (e : Event) → IsRun first o → Happens o e p → IsRun first p
 run_then first o p e h k = hold_then any (opened first) o p h (hold_one any o p e refl k)
 
 pub run_same : (first i : ImageView) (b c : BooksView) → IsRun first (at i b) → c ≡ b → IsRun first (at i c)
@@ -70,7 +70,7 @@ run_given first i b c h e = run_then first (at i b) (at i c) given h (refl, e)
 pub run_employed : (first i : ImageView) (b c : BooksView) → IsRun first (at i b) → c ≡ record b { workers = b.workers + 1 } → IsRun first (at i c)
 run_employed first i b c h e = run_then first (at i b) (at i c) employed h (refl, e)
 
-interned_booked : (o : OfficeView) (x : Result Selector Refusal) → o.books ≡ booked o (told answer.Interned x)
+interned_booked : (o : PoolView) (x : Result Selector Refusal) → o.books ≡ booked o (told answer.Interned x)
 interned_booked o (Ok s) = refl
 interned_booked o (Err e) = refl
 

@@ -12,8 +12,8 @@ use Rattle.st_image.specs.Commits.{ChecksOut, Settles}
 use Rattle.st_image.specs.GoingOn.{GoesOnIn}
 use Rattle.st_image.specs.Scheduling.{IsNextReady, is_free_at}
 use Rattle.st_image.specs.WorldInvariant.{IsLawful}
-use Rattle.st_pool.specs.declared.office.working.Work.{Work}
-use Rattle.st_pool.specs.declared.office.working.Work.TheVariants.{Stop, Wait, Turn}
+use Rattle.st_pool.specs.declared.pool_state.working.Work.{Work}
+use Rattle.st_pool.specs.declared.pool_state.working.Work.TheVariants.{Stop, Wait, Turn}
 use Rattle.st_pool.specs.declared.receipts.Receipt.{Receipt}
 use Rattle.st_pool.specs.Books.{BooksView}
 use Rattle.st_calls.specs.Growth.{Amounts, amounts}
@@ -34,7 +34,7 @@ abbrev pub one_call_more : Done → Done
 one_call_more d = record d { calls = (d.calls + 1) % 2 ^ 64 }
 
 -- what lies under the lock
-pub record OfficeView : Type 0 where
+pub record PoolView : Type 0 where
   pub image : ImageView
   pub books : BooksView
 
@@ -46,7 +46,7 @@ pub record HasAtLeast (start : Amounts) (done : Done) (i : ImageView) : Type 0 w
 
 -- What a hold of a caller finds: an image that has at least what it has done, and that goes on from the one that was shared; and of
 -- the items that were emptied at least those that its own checkpoints have emptied
-pub record Finds (start : Amounts) (first : ImageView) (d : Done) (o : OfficeView) : Type 0 where
+pub record Finds (start : Amounts) (first : ImageView) (d : Done) (o : PoolView) : Type 0 where
   pub least : HasAtLeast start d o.image
   pub later : GoesOnIn first o.image
   pub emptied : d.emptied ≤ o.books.emptied

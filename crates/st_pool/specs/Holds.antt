@@ -11,7 +11,7 @@ use Rattle.st_calls.specs.Growth.{committed}
 use Rattle.st_image.specs.Images.{ImageView}
 use Rattle.st_pool.specs.Books.{no_books}
 use Rattle.st_pool.specs.Calling.{booked}
-use Rattle.st_pool.specs.Done.{OfficeView}
+use Rattle.st_pool.specs.Done.{PoolView}
 
 -- an event, with what was answered: the last two are shares for a caller and for a worker
 pub data Event : Type 0 where
@@ -22,7 +22,7 @@ pub data Event : Type 0 where
   employed : Event
 
 -- what an event does to the image and to the books
-abbrev pub Happens : OfficeView → Event → OfficeView → Type 0
+abbrev pub Happens : PoolView → Event → PoolView → Type 0
 Happens o (called c r) p = Does o.image c r p.image × (p.books ≡ booked o r)
 Happens o (handed a r) p = ChecksOut o.image a r p.image × (p.books ≡ o.books)
 Happens o (settled c r) p = Settles o.image c r p.image × (p.books ≡ record o.books { steps = o.books.steps + committed r })
@@ -45,19 +45,19 @@ abbrev pub any : Event → Bool
 any e = true
 
 -- events of a kind, one after the other
-abbrev pub Happen : (Event → Bool) → OfficeView → List Event → OfficeView → Type 0
+abbrev pub Happen : (Event → Bool) → PoolView → List Event → PoolView → Type 0
 Happen kind o [] p = p ≡ o
-Happen kind o (e ∷ es) p = (kind e ≡ true) × ((m : OfficeView) × Happens o e m × Happen kind m es p)
+Happen kind o (e ∷ es) p = (kind e ≡ true) × ((m : PoolView) × Happens o e m × Happen kind m es p)
 
 -- what lies under the lock at first: the image that is shared, and new books
-abbrev pub opened : ImageView → OfficeView
+abbrev pub opened : ImageView → PoolView
 opened first = record { image = first; books = no_books }
 
 -- a hold is a list of events of its kind
-pub record IsHold (kind : Event → Bool) (o p : OfficeView) : Type 0 where
+pub record IsHold (kind : Event → Bool) (o p : PoolView) : Type 0 where
   pub events : List Event
   pub happen : Happen kind o events p
 
 -- from the image that was shared on, events have led to what lies under the lock
-abbrev pub IsRun : ImageView → OfficeView → Type 0
+abbrev pub IsRun : ImageView → PoolView → Type 0
 IsRun first o = IsHold any (opened first) o

@@ -12,12 +12,12 @@ ghost use Rattle.st_image.specs.Stats.{installed_own, method_stats, stats_rules}
 ghost use Rattle.st_calls.specs.Growth.{counted};
 ghost use Rattle.st_pool.specs.Calling.{CallsOnce, PostsOnce};
 ghost use Rattle.st_pool.specs.Checkpointed.{Checkpoints, with_checkpoint};
-ghost use Rattle.st_pool.specs.Done.{Finds, HasAtLeast, OfficeView, one_call_more};
+ghost use Rattle.st_pool.specs.Done.{Finds, HasAtLeast, PoolView, one_call_more};
 
 use crate::answers::{closed, counts, created, position, version};
 use crate::holds::{Calling, Condition, Interning, Job};
 use crate::naming::Naming;
-use crate::office::Office;
+use crate::pool_state::PoolState;
 use crate::shared::Shared;
 use crate::shares::CallerShare;
 use st_calls::calls::{Answer, Call};
@@ -65,10 +65,10 @@ impl<'a, K: Naming, M: Mailbox> Caller<'a, K, M> {
     /// Does something in one hold of the lock. The image is lawful then and has at least what this caller has done. If something has
     /// moved in the hold, one worker that sleeps is woken, and one that rests; none is if one looks for what moves, who finds it.
     pub fn hold<R: Wait, J: Job<K, M>>(&mut self, rt: &R, alloc: Global, job: J) -> J::Out
-        ensures { (o : OfficeView) × (p : OfficeView) × Finds K.start K.first self.old o × J.done job o self.old result p self.new }
+        ensures { (o : PoolView) × (p : PoolView) × Finds K.start K.first self.old o × J.done job o self.old result p self.new }
     {
-        let office = self.shared.enter(rt);
-        self.run_in(office, alloc, job)
+        let pool = self.shared.enter(rt);
+        self.run_in(pool, alloc, job)
     }
 
     /// The same, in a hold that begins once a condition holds, or this long has passed. The thread sleeps for it.
@@ -80,29 +80,29 @@ impl<'a, K: Naming, M: Mailbox> Caller<'a, K, M> {
         most: Duration,
         job: J,
     ) -> J::Out
-        ensures { (o : OfficeView) × (p : OfficeView) × Finds K.start K.first self.old o × J.done job o self.old result p self.new }
+        ensures { (o : PoolView) × (p : PoolView) × Finds K.start K.first self.old o × J.done job o self.old result p self.new }
     {
-        let office = self.shared.enter_when(rt, condition, most);
-        self.run_in(office, alloc, job)
+        let pool = self.shared.enter_when(rt, condition, most);
+        self.run_in(pool, alloc, job)
     }
 
     /// Does something in a hold, which ends with it.
     #[inline]
     fn run_in<J: Job<K, M>>(
         &mut self,
-        mut office: MutexGuard<'_, Office<K, M>>,
+        mut pool: MutexGuard<'_, PoolState<K, M>>,
         alloc: Global,
         job: J,
     ) -> J::Out
-        ensures { (o : OfficeView) × (p : OfficeView) × Finds K.start K.first self.old o × J.done job o self.old result p self.new }
+        ensures { (o : PoolView) × (p : PoolView) × Finds K.start K.first self.old o × J.done job o self.old result p self.new }
     {
         let Caller { shared, share } = self;
-        office.audit(share);
-        let moves = office.moves();
-        let out = job.run(alloc, &mut office, share);
-        let wakes = office.wakes_past(moves);
-        let has_news = office.take_news();
-        drop(office);
+        pool.audit(share);
+        let moves = pool.moves();
+        let out = job.run(alloc, &mut pool, share);
+        let wakes = pool.wakes_past(moves);
+        let has_news = pool.take_news();
+        drop(pool);
         shared.wake_if(wakes);
         shared.tell_if(has_news);
         out
@@ -131,7 +131,7 @@ impl<'a, K: Naming, M: Mailbox> Caller<'a, K, M> {
         text: &[u8],
     ) -> Result<Selector, Refusal>
         ensures same { self.new ≡ one_call_more self.old }
-        ensures answers { (o : OfficeView) × (j : ImageView) × Finds K.start K.first self.old o × Interns o.image text.now result j }
+        ensures answers { (o : PoolView) × (j : ImageView) × Finds K.start K.first self.old o × Interns o.image text.now result j }
     {
         self.hold(rt, alloc, Interning { text })
     }
@@ -181,7 +181,7 @@ impl<'a, K: Naming, M: Mailbox> Caller<'a, K, M> {
         slots: Seq<Seq<u8>>,
     ) -> Result<u32, Refusal>
         ensures edits { self.new ≡ record (one_call_more self.old) { edits = self.old.edits + counted (is_ok result) } }
-        ensures answers { (o : OfficeView) × (j : ImageView) × Finds K.start K.first self.old o × Defines o.image name parent slots result j }
+        ensures answers { (o : PoolView) × (j : ImageView) × Finds K.start K.first self.old o × Defines o.image name parent slots result j }
     {
         let answer = self.call(
             rt,
@@ -204,7 +204,7 @@ impl<'a, K: Naming, M: Mailbox> Caller<'a, K, M> {
         source: Seq<u8>,
     ) -> Result<u32, Refusal>
         ensures edits { self.new ≡ record (one_call_more self.old) { edits = self.old.edits + counted (is_ok result) } }
-        ensures answers { (o : OfficeView) × (j : ImageView) × Finds K.start K.first self.old o × InstallsIn o.image class source result j }
+        ensures answers { (o : PoolView) × (j : ImageView) × Finds K.start K.first self.old o × InstallsIn o.image class source result j }
     {
         let answer = self.call(rt, alloc, Call::Install { class, source });
         version(answer)
@@ -219,7 +219,7 @@ impl<'a, K: Naming, M: Mailbox> Caller<'a, K, M> {
         selector: Selector,
     ) -> Result<u32, Refusal>
         ensures edits { self.new ≡ record (one_call_more self.old) { edits = self.old.edits + counted (is_ok result) } }
-        ensures answers { (o : OfficeView) × (j : ImageView) × Finds K.start K.first self.old o × Removes o.image class selector result j }
+        ensures answers { (o : PoolView) × (j : ImageView) × Finds K.start K.first self.old o × Removes o.image class selector result j }
     {
         let answer = self.call(rt, alloc, Call::Remove { class, selector });
         version(answer)
@@ -234,7 +234,7 @@ impl<'a, K: Naming, M: Mailbox> Caller<'a, K, M> {
         parent: ClassId,
     ) -> Result<u32, Refusal>
         ensures edits { self.new ≡ record (one_call_more self.old) { edits = self.old.edits + counted (is_ok result) } }
-        ensures answers { (o : OfficeView) × (j : ImageView) × Finds K.start K.first self.old o × Reparents o.image class parent result j }
+        ensures answers { (o : PoolView) × (j : ImageView) × Finds K.start K.first self.old o × Reparents o.image class parent result j }
     {
         let answer = self.call(rt, alloc, Call::Reparent { class, parent });
         version(answer)
@@ -248,7 +248,7 @@ impl<'a, K: Naming, M: Mailbox> Caller<'a, K, M> {
         class: ClassId,
     ) -> Result<ActorId, Refusal>
         ensures same { self.new ≡ one_call_more self.old }
-        ensures answers { (o : OfficeView) × (j : ImageView) × Finds K.start K.first self.old o × Creates o.image class result j }
+        ensures answers { (o : PoolView) × (j : ImageView) × Finds K.start K.first self.old o × Creates o.image class result j }
     {
         let answer = self.call(rt, alloc, Call::Create(class));
         created(answer)
@@ -257,7 +257,7 @@ impl<'a, K: Naming, M: Mailbox> Caller<'a, K, M> {
     /// Closes a mailbox. The messages that wait in it are still run.
     pub fn close<R: Wait>(&mut self, rt: &R, alloc: Global, actor: ActorId) -> Result<(), Refusal>
         ensures same { self.new ≡ one_call_more self.old }
-        ensures answers { (o : OfficeView) × (j : ImageView) × Finds K.start K.first self.old o × Closes o.image actor result j }
+        ensures answers { (o : PoolView) × (j : ImageView) × Finds K.start K.first self.old o × Closes o.image actor result j }
     {
         let answer = self.call(rt, alloc, Call::Close(actor));
         closed(answer)
@@ -269,7 +269,7 @@ impl<'a, K: Naming, M: Mailbox> Caller<'a, K, M> {
     /// It is refused by `HistoryFull` if more than 2^63 - 1 items would have been emptied since the image was shared, and by `NoMemory`
     /// if memory ran out. A refused checkpoint changes nothing. Workers that waited for room in the history go on.
     pub fn checkpoint<R: Wait>(&mut self, rt: &R, alloc: Global) -> Result<Counts, Refusal>
-        ensures { (o : OfficeView) × (p : OfficeView) × Finds K.start K.first self.old o × Checkpoints o result p × (self.new ≡ with_checkpoint o result self.old) }
+        ensures { (o : PoolView) × (p : PoolView) × Finds K.start K.first self.old o × Checkpoints o result p × (self.new ≡ with_checkpoint o result self.old) }
     {
         let answer = self.call(rt, alloc, Call::Checkpoint);
         counts(answer)
@@ -284,12 +284,12 @@ impl<'a, K: Naming, M: Mailbox> Caller<'a, K, M> {
         turn: u64,
     ) -> Result<Outcome, Refusal>
         ensures same { self.new ≡ self.old }
-        ensures answers { (o : OfficeView) × Finds K.start K.first self.old o × (result ≡ image_outcome o.image actor turn) }
+        ensures answers { (o : PoolView) × Finds K.start K.first self.old o × (result ≡ image_outcome o.image actor turn) }
     {
         let Caller { shared, share } = self;
-        let mut office = shared.enter(rt);
-        office.audit(share);
-        office.image().outcome(actor, turn)
+        let mut pool = shared.enter(rt);
+        pool.audit(share);
+        pool.image().outcome(actor, turn)
     }
 
     /// What was counted of the sites of a method, in the order of its code.
@@ -301,12 +301,12 @@ impl<'a, K: Naming, M: Mailbox> Caller<'a, K, M> {
         selector: Selector,
     ) -> Result<Vec<SiteStats>, Refusal>
         ensures same { self.new ≡ self.old }
-        ensures answers { (o : OfficeView) × Finds K.start K.first self.old o × AnswersExactly (first_of (stats_rules o.image class selector)) result (λ list. list.items ≡ method_stats o.image (installed_own (world o.image).edits class selector)) }
+        ensures answers { (o : PoolView) × Finds K.start K.first self.old o × AnswersExactly (first_of (stats_rules o.image class selector)) result (λ list. list.items ≡ method_stats o.image (installed_own (world o.image).edits class selector)) }
     {
         let Caller { shared, share } = self;
-        let mut office = shared.enter(rt);
-        office.audit(share);
-        office.image().stats(alloc, class, selector)
+        let mut pool = shared.enter(rt);
+        pool.audit(share);
+        pool.image().stats(alloc, class, selector)
     }
 
     /// What this caller has done: its share, for `settle`. No memory is taken, and nothing is waited for.
@@ -328,8 +328,8 @@ impl<'a, K: Naming> Caller<'a, K, RingBox> {
         ensures looks { (i : ImageView) × HasAtLeast K.start self.old i × GoesOnIn K.first i × FnOnceReturnsAt F.FnOnce f i result }
     {
         let Caller { shared, share } = self;
-        let mut office = shared.enter(rt);
-        office.audit(share);
-        f(office.image())
+        let mut pool = shared.enter(rt);
+        pool.audit(share);
+        f(pool.image())
     }
 }

@@ -1,9 +1,9 @@
 //! What is done in one hold of the lock.
 ghost use Rattle.std.specs.Prelude.{◌≡◌};
-ghost use Rattle.st_pool.specs.Done.{Done, OfficeView};
+ghost use Rattle.st_pool.specs.Done.{Done, PoolView};
 
 use crate::naming::Naming;
-use crate::office::Office;
+use crate::pool_state::PoolState;
 use crate::shares::CallerShare;
 use st_calls::calls::{Answer, Call};
 use st_classes::refusals::Refusal;
@@ -16,10 +16,10 @@ pub trait Job<K: Naming, M: Mailbox> {
     /// What comes of it.
     type Out;
 
-    ghost done: { Self → OfficeView → Done → Self.Out → OfficeView → Done → Type 0 };
+    ghost done: { Self → PoolView → Done → Self.Out → PoolView → Done → Type 0 };
 
-    fn run(self, alloc: Global, office: &mut Office<K, M>, mine: &mut CallerShare<K>) -> Self::Out
-        ensures { done self office.old mine.old result office.new mine.new };
+    fn run(self, alloc: Global, pool: &mut PoolState<K, M>, mine: &mut CallerShare<K>) -> Self::Out
+        ensures { done self pool.old mine.old result pool.new mine.new };
 }
 
 /// What is read in one hold of the lock, by one who makes no call.
@@ -27,13 +27,13 @@ pub trait Reading<K: Naming, M: Mailbox> {
     /// What comes of it.
     type Out;
 
-    fn read(self, alloc: Global, office: &mut Office<K, M>) -> Self::Out
-        ensures { office.new ≡ office.old };
+    fn read(self, alloc: Global, pool: &mut PoolState<K, M>) -> Self::Out
+        ensures { pool.new ≡ pool.old };
 }
 
 /// What a hold of the lock waits for. It is looked at after each commit that has ended a turn, and after each checkpoint.
 pub trait Condition<K: Naming, M: Mailbox> {
-    fn holds(&self, office: &Office<K, M>) -> bool;
+    fn holds(&self, pool: &PoolState<K, M>) -> bool;
 }
 
 /// One call.
@@ -52,10 +52,10 @@ impl<K: Naming, M: Mailbox> Job<K, M> for Calling {
     fn run(
         self,
         alloc: Global,
-        office: &mut Office<K, M>,
+        pool: &mut PoolState<K, M>,
         mine: &mut CallerShare<K>,
     ) -> Result<Answer, Refusal> {
-        office.apply(alloc, mine, self.call)
+        pool.apply(alloc, mine, self.call)
     }
 }
 
@@ -78,9 +78,9 @@ impl<'a, K: Naming, M: Mailbox> Job<K, M> for Interning<'a> {
     fn run(
         self,
         alloc: Global,
-        office: &mut Office<K, M>,
+        pool: &mut PoolState<K, M>,
         mine: &mut CallerShare<K>,
     ) -> Result<Selector, Refusal> {
-        office.intern(alloc, mine, self.text)
+        pool.intern(alloc, mine, self.text)
     }
 }

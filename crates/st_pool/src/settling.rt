@@ -141,8 +141,8 @@ fn settle_in<K: Naming, M: Mailbox>(
     ensures run { IfOk result (λ r. (b : BooksView) × IsRun K.first (record { image = r.0; books = b })) }
     ensures refused { IfErr result (λ e. (e ≡ refusals.BadArguments) ⊎ (e ≡ refusals.Changed)) }
 {
-    let Shared { office, .. } = shared;
-    office.into_inner().settle(shares, accounts)
+    let Shared { pool, .. } = shared;
+    pool.into_inner().settle(shares, accounts)
 }
 
 /// The image, what all threads have done together, once they have handed back their shares, and what each has done. The totals are the

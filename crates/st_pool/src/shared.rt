@@ -7,10 +7,10 @@ ghost use Rattle.st_pool.specs.Done.{nothing_done};
 
 use crate::books::Blanks;
 use crate::callers::Caller;
-use crate::front::Opened;
 use crate::holds::{Condition, Reading};
+use crate::known_prefix::Opened;
 use crate::naming::Naming;
-use crate::office::Office;
+use crate::pool_state::PoolState;
 use st_classes::refusals::Refusal;
 use st_image::image::Image;
 use st_mailbox::mailboxes::Mailbox;
@@ -51,7 +51,7 @@ fn pause(count: usize) {
 /// An image that threads share, with books of what they do to it. Each call takes the lock once.
 #[derive(Drop)]
 pub struct Shared<K: Naming, M: Mailbox> {
-    pub(crate) office: Mutex<Office<K, M>>,
+    pub(crate) pool: Mutex<PoolState<K, M>>,
     pub(crate) moved: Condvar,
     /// What workers rest on that were in the way of others.
     pub(crate) eased: Condvar,
@@ -72,7 +72,7 @@ impl<K: Naming, M: Mailbox> Shared<K, M> {
         requires first { K.first ≡ image }
     {
         Shared {
-            office: Mutex::new(Office::new(image, blanks, opened)),
+            pool: Mutex::new(PoolState::new(image, blanks, opened)),
             moved: Condvar::new(),
             eased: Condvar::new(),
             ended: Condvar::new(),
@@ -96,16 +96,16 @@ impl<K: Naming, M: Mailbox> Shared<K, M> {
 
     /// Reads something in one hold of the lock, in which nothing changes. No worker is woken.
     pub fn read<R: Wait, J: Reading<K, M>>(&self, rt: &R, alloc: Global, reading: J) -> J::Out {
-        let mut office = self.enter(rt);
-        reading.read(alloc, &mut office)
+        let mut pool = self.enter(rt);
+        reading.read(alloc, &mut pool)
     }
 
     /// Looks for the lock this often, with this many pauses after each look.
     #[inline(always)]
-    fn look(&self, looks: usize, pauses: usize) -> Option<MutexGuard<'_, Office<K, M>>> {
+    fn look(&self, looks: usize, pauses: usize) -> Option<MutexGuard<'_, PoolState<K, M>>> {
         for _ in 0..looks {
-            if let Some(office) = self.office.try_lock() {
-                return Some(office);
+            if let Some(pool) = self.pool.try_lock() {
+                return Some(pool);
             }
             pause(pauses);
         }
@@ -113,14 +113,14 @@ impl<K: Naming, M: Mailbox> Shared<K, M> {
     }
 
     /// Takes the lock. It is looked for some time before the thread sleeps for it.
-    pub(crate) fn enter<R: Wait>(&self, rt: &R) -> MutexGuard<'_, Office<K, M>> {
-        if let Some(office) = self.look(LOOKS, PAUSES) {
-            return office;
+    pub(crate) fn enter<R: Wait>(&self, rt: &R) -> MutexGuard<'_, PoolState<K, M>> {
+        if let Some(pool) = self.look(LOOKS, PAUSES) {
+            return pool;
         }
-        if let Some(office) = self.look(LONG_LOOKS, LONG_PAUSES) {
-            return office;
+        if let Some(pool) = self.look(LONG_LOOKS, LONG_PAUSES) {
+            return pool;
         }
-        self.office.lock(rt)
+        self.pool.lock(rt)
     }
 
     /// Takes the lock if a condition holds at one of some looks.
@@ -128,13 +128,13 @@ impl<K: Naming, M: Mailbox> Shared<K, M> {
         &self,
         rt: &R,
         condition: &C,
-    ) -> Option<MutexGuard<'_, Office<K, M>>> {
+    ) -> Option<MutexGuard<'_, PoolState<K, M>>> {
         for _ in 0..LOOKS_FOR_END {
-            let office = self.enter(rt);
-            if condition.holds(&office) {
-                return Some(office);
+            let pool = self.enter(rt);
+            if condition.holds(&pool) {
+                return Some(pool);
             }
-            drop(office);
+            drop(pool);
             yield_now();
         }
         None
@@ -147,18 +147,18 @@ impl<K: Naming, M: Mailbox> Shared<K, M> {
         rt: &R,
         condition: &C,
         most: Duration,
-    ) -> MutexGuard<'_, Office<K, M>> {
+    ) -> MutexGuard<'_, PoolState<K, M>> {
         if most.is_zero() {
             return self.enter(rt);
         }
-        if let Some(office) = self.look_for(rt, condition) {
-            return office;
+        if let Some(pool) = self.look_for(rt, condition) {
+            return pool;
         }
         let mut before = self.enter(rt);
         before.waiting.begin_watch();
         let (mut behind, _) = self
             .ended
-            .wait_timeout_while(rt, before, most, |office| !condition.holds(office));
+            .wait_timeout_while(rt, before, most, |pool| !condition.holds(pool));
         behind.waiting.end_watch();
         behind
     }
@@ -172,20 +172,20 @@ impl<K: Naming, M: Mailbox> Shared<K, M> {
         let mut seen = seen;
         for _ in 0..LOOKS_FOR_WORK {
             pause(LONG_PAUSES);
-            if let Some(mut office) = self.office.try_lock() {
-                if office.has_work_past(seen) {
-                    office.waiting.end_look();
+            if let Some(mut pool) = self.pool.try_lock() {
+                if pool.has_work_past(seen) {
+                    pool.waiting.end_look();
                     return None;
                 }
-                seen = office.moves();
+                seen = pool.moves();
             }
         }
-        let mut office = self.enter(rt);
-        office.waiting.end_look();
-        if office.has_work_past(seen) {
+        let mut pool = self.enter(rt);
+        pool.waiting.end_look();
+        if pool.has_work_past(seen) {
             return None;
         }
-        Some(office.moves())
+        Some(pool.moves())
     }
 
     /// A turn has ended, or the turns have been numbered anew, if so: the callers that wait look again.

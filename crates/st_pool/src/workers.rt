@@ -8,11 +8,11 @@ ghost use Rattle.st_classes.specs.declared.refusals.Refusal.TheVariants as refus
 ghost use Rattle.st_classes.specs.declared.refusals.Limited.TheVariants as limits;
 ghost use Rattle.st_pool.specs.Holds.{IsHold, of_worker};
 
+use crate::claim_slots::{ClaimSlots, Ran, Turned};
 use crate::crowding::Crowding;
-use crate::hand::Hand;
 use crate::naming::Naming;
-use crate::office::{Office, Work};
-use crate::seats::{Ran, Seats, Turned};
+use crate::pool_state::{PoolState, Work};
+use crate::pool_worker::PoolWorker;
 use crate::shared::Shared;
 use crate::shares::WorkerShare;
 use st_classes::refusals::Refusal;
@@ -55,7 +55,7 @@ fn wait_past<K: Naming, M: Mailbox, R: Wait>(rt: &R, shared: &Shared<K, M>, seen
     before.waiting.lie_down();
     let mut behind = shared
         .moved
-        .wait_while(rt, before, |office| office.waiting.is_still(seen));
+        .wait_while(rt, before, |pool| pool.waiting.is_still(seen));
     behind.waiting.get_up();
 }
 
@@ -69,7 +69,7 @@ fn rest<K: Naming, M: Mailbox, R: Wait>(rt: &R, shared: &Shared<K, M>) {
     before.waiting.sit_down();
     let mut behind = shared
         .eased
-        .wait_while(rt, before, |office| !office.waiting.is_eased_since(seen));
+        .wait_while(rt, before, |pool| !pool.waiting.is_eased_since(seen));
     behind.waiting.stand_up();
 }
 
@@ -93,10 +93,10 @@ fn next_work<K: Naming, M: Mailbox, R: Wait>(
     alloc: Global,
     shared: &Shared<K, M>,
     share: &mut WorkerShare<K>,
-    seats: &mut Seats<K>,
+    claim_slots: &mut ClaimSlots<K>,
 ) -> Work<()> {
-    let work = seats.find(alloc, &mut shared.enter(rt), share);
-    seats.let_go();
+    let work = claim_slots.find(alloc, &mut shared.enter(rt), share);
+    claim_slots.let_go();
     work
 }
 
@@ -105,53 +105,53 @@ fn next_work<K: Naming, M: Mailbox, R: Wait>(
 #[tactic(auto, using(crate::proofs::Holding::hold_then))]
 fn settle_all<K: Naming, M: Mailbox>(
     alloc: Global,
-    office: &mut Office<K, M>,
+    pool: &mut PoolState<K, M>,
     share: &mut WorkerShare<K>,
-    seats: &mut Seats<K>,
+    claim_slots: &mut ClaimSlots<K>,
     ran: Ran,
     rests: bool,
     was_free: bool,
 ) -> Turned
-    ensures { IsHold of_worker office.old office.new }
+    ensures { IsHold of_worker pool.old pool.new }
 {
     let are_long = !ran.has_short();
-    let turned = seats.turn_over(alloc, office, share, rests, are_long);
+    let turned = claim_slots.turn_over(alloc, pool, share, rests, are_long);
     let is_well = turned.committed == ran.count && !ran.is_starved;
-    if turned.goes_on && is_well && are_long && !was_free && !office.has_idle() {
-        seats.take_more(alloc, office, share);
+    if turned.goes_on && is_well && are_long && !was_free && !pool.has_idle() {
+        claim_slots.take_more(alloc, pool, share);
     }
-    office.note_want(ran.is_starved);
+    pool.note_want(ran.is_starved);
     turned
 }
 
 /// Commits the steps of the worker's quanta, and answers what the worker does next, both in one hold. A commit readies at most one
-/// actor more than its seat takes next, so for each one other worker is woken if one sleeps and an actor is ready. One that rests is
+/// actor more than its slot takes next, so for each one other worker is woken if one sleeps and an actor is ready. One that rests is
 /// woken too, but not after short quanta whose worker goes on or rests.
 fn turn_over<K: Naming, M: Mailbox, R: Wait>(
     rt: &R,
     alloc: Global,
     shared: &Shared<K, M>,
     share: &mut WorkerShare<K>,
-    seats: &mut Seats<K>,
+    claim_slots: &mut ClaimSlots<K>,
     ran: Ran,
     crowding: &mut Crowding,
 ) -> Work<()> {
-    let at_once = shared.office.try_lock();
+    let at_once = shared.pool.try_lock();
     let was_free = at_once.is_some();
     crowding.note(ran.long, ran.has_short(), was_free);
-    let mut office = match at_once {
-        Some(office) => office,
+    let mut pool = match at_once {
+        Some(pool) => pool,
         None => shared.enter(rt),
     };
-    let rests = crowding.asks_for_rest(!ran.is_starved && office.has_helpers());
-    let turned = settle_all(alloc, &mut office, share, seats, ran, rests, was_free);
-    let wants_help = office.wants_help();
+    let rests = crowding.asks_for_rest(!ran.is_starved && pool.has_helpers());
+    let turned = settle_all(alloc, &mut pool, share, claim_slots, ran, rests, was_free);
+    let wants_help = pool.wants_help();
     let is_hurried = ran.long == 0 && (rests || turned.goes_on);
-    let wants_more = !is_hurried && office.wants_more();
-    let has_news = office.take_news();
-    drop(office);
+    let wants_more = !is_hurried && pool.wants_more();
+    let has_news = pool.take_news();
+    drop(pool);
     shared.tell_if(has_news);
-    seats.let_go();
+    claim_slots.let_go();
     for _ in 0..turned.committed {
         if wants_help {
             shared.moved.notify_one();
@@ -167,17 +167,17 @@ fn turn_over<K: Naming, M: Mailbox, R: Wait>(
     }
 }
 
-/// What a worker has for itself: its hand, its seats, and whether it is in the way of others.
+/// What a worker has for itself: its caches, its claim slots, and whether it is in the way of others.
 #[derive(Drop)]
-struct Bench<K: Naming, G: Guard> {
-    hand: Hand<K, G>,
-    seats: Seats<K>,
+struct WorkerState<K: Naming, G: Guard> {
+    pool_worker: PoolWorker<K, G>,
+    claim_slots: ClaimSlots<K>,
     crowding: Crowding,
 }
 
 /// The number of a worker, and the steps of a quantum.
 #[derive(Clone, Copy)]
-struct Orders {
+struct WorkerConfig {
     number: u32,
     quantum: u32,
 }
@@ -188,18 +188,18 @@ fn take_quanta<G: Guard, K: Naming, M: Mailbox, T: Gate, R: Wait>(
     alloc: Global,
     shared: &Shared<K, M>,
     share: &mut WorkerShare<K>,
-    bench: &mut Bench<K, G>,
-    orders: Orders,
+    state: &mut WorkerState<K, G>,
+    config: WorkerConfig,
     gate: &mut T,
 ) -> Work<()> {
-    let Bench {
-        hand,
-        seats,
+    let WorkerState {
+        pool_worker,
+        claim_slots,
         crowding,
-    } = bench;
-    let Orders { number, quantum } = orders;
-    let ran = seats.run(alloc, hand, quantum, number, gate);
-    let work = turn_over(rt, alloc, shared, share, seats, ran, crowding);
+    } = state;
+    let WorkerConfig { number, quantum } = config;
+    let ran = claim_slots.run(alloc, pool_worker, quantum, number, gate);
+    let work = turn_over(rt, alloc, shared, share, claim_slots, ran, crowding);
     for _ in 0..ran.count {
         gate.after(number);
     }
@@ -212,24 +212,24 @@ fn take_quanta_until_stop<G: Guard, K: Naming, M: Mailbox, T: Gate, R: Wait>(
     alloc: Global,
     shared: &Shared<K, M>,
     share: &mut WorkerShare<K>,
-    bench: &mut Bench<K, G>,
-    orders: Orders,
+    state: &mut WorkerState<K, G>,
+    config: WorkerConfig,
     gate: &mut T,
 ) {
-    let mut work = next_work(rt, alloc, shared, share, &mut bench.seats);
+    let mut work = next_work(rt, alloc, shared, share, &mut state.claim_slots);
     for _ in rt.forever() {
         work = match work {
             Work::Stop => return,
             Work::Wait(seen) => {
-                pause(rt, shared, &mut bench.crowding, seen);
-                next_work(rt, alloc, shared, share, &mut bench.seats)
+                pause(rt, shared, &mut state.crowding, seen);
+                next_work(rt, alloc, shared, share, &mut state.claim_slots)
             }
             Work::Turn(()) => {
                 // Nobody else can take the actors of the claims meanwhile.
-                if bench.crowding.lets_others_run() {
+                if state.crowding.lets_others_run() {
                     yield_now();
                 }
-                take_quanta(rt, alloc, shared, share, bench, orders, gate)
+                take_quanta(rt, alloc, shared, share, state, config, gate)
             }
         };
     }
@@ -269,13 +269,13 @@ pub fn worker_loop<G: Guard, K: Naming, M: Mailbox, T: Gate, R: Wait>(
             return Err(refusal);
         }
     };
-    let mut bench = Bench {
-        hand: Hand::new(worker),
-        seats: Seats::new(alloc),
+    let mut state = WorkerState {
+        pool_worker: PoolWorker::new(worker),
+        claim_slots: ClaimSlots::new(alloc),
         crowding: Crowding::none(),
     };
-    let orders = Orders { number, quantum };
-    take_quanta_until_stop(rt, alloc, shared, &mut share, &mut bench, orders, gate);
-    drop(bench);
+    let config = WorkerConfig { number, quantum };
+    take_quanta_until_stop(rt, alloc, shared, &mut share, &mut state, config, gate);
+    drop(state);
     Ok(share)
 }

@@ -17,7 +17,7 @@ use crate::scenes::Scene;
 use crate::waking::{endless, hurried, long_turn, rally, rest, stopping, waking, waking_by_commit};
 use st_classes::refusals::Refusal;
 use st_pool::books::Blanks;
-use st_pool::front::Opened;
+use st_pool::known_prefix::Opened;
 use st_pool::naming::Naming;
 use st_pool::settling::{Shares, settle};
 use st_pool::shares::WorkerShare;

@@ -3,7 +3,7 @@ use Rattle.std.proofs.Common.{◌≡◌, ◌∙◌, ◌⊎◌, Result, Ok, Err, 
 use Rattle.st_classes.specs.declared.refusals.Refusal.{Refusal}
 use Rattle.st_image.specs.Images.{ImageView}
 use Rattle.st_calls.specs.Growth.{Amounts}
-use Rattle.st_pool.specs.Done.{Done, OfficeView}
+use Rattle.st_pool.specs.Done.{Done, PoolView}
 use Rattle.st_file.specs.Moments.{MomentView, moment_of}
 use Rattle.st_wire.specs.declared.commands.Command.{Command}
 use Rattle.st_wire.specs.declared.commands.Command.TheVariants as command
@@ -26,13 +26,13 @@ pub copied_saves : (i : ImageView) (seen : Result MomentView Refusal) (written r
 copied_saves i seen written r same fault saves replaces = replaced_saves (moment_of i) written r (seen_saves i seen written same fault saves) replaces
 
 -- what was copied in a hold counts, or counts for nothing
-pub settled_copy : (o p : OfficeView) (d e : Done) (before r : Result MomentView Refusal) → CopiesInHold o d before p e → StaysOrFails before r → CopiesInHold o d r p e
+pub settled_copy : (o p : PoolView) (d e : Done) (before r : Result MomentView Refusal) → CopiesInHold o d before p e → StaysOrFails before r → CopiesInHold o d r p e
 settled_copy o p d e before r copies (inl same) = subst (λ (x : Result MomentView Refusal). CopiesInHold o d x p e) (sym same) copies
 settled_copy o p d e before r copies (inr fault) =
     subst (λ (x : Result MomentView Refusal). CopiesInHold o d x p e) (sym fault.2) (tt, fault.1, copies.2, copies.3)
 
 -- a command that saves nothing is answered in its hold
-serves_hold : (o p : OfficeView) (d e : Done) (c : Command) (r : Reply) → (c ≡ command.Save → ⊥) → AsksInHold o d c r p e → ServesInHold o d c r p e
+serves_hold : (o p : PoolView) (d e : Done) (c : Command) (r : Reply) → (c ≡ command.Save → ⊥) → AsksInHold o d c r p e → ServesInHold o d c r p e
 serves_hold o p d e command.Save r not asks = absurd (not refl)
 serves_hold o p d e c r not asks = asks
 

@@ -55,8 +55,8 @@ copies_text (Ok (outcome.Answer v)) = is_told_by_text v
 copies_text _ = false
 
 -- the reply tells the outcome; memory can run out only if a text is copied
-abbrev pub Tells : ImageView → Result Outcome Refusal → Reply → Type 0
-Tells i result r = (r ≡ outcome_reply i result) ⊎ ((copies_text result ≡ true) × (r ≡ reply.Refused NoMemory))
+abbrev pub RepliesOutcome : ImageView → Result Outcome Refusal → Reply → Type 0
+RepliesOutcome i result r = (r ≡ outcome_reply i result) ⊎ ((copies_text result ≡ true) × (r ≡ reply.Refused NoMemory))
 
 -- the outcome of a turn that is numbered in an epoch; in any other it has expired
 abbrev pub waited : ImageView → Host → List ℕ → ActorId → ℕ → Result Outcome Refusal
@@ -64,7 +64,7 @@ waited i host text a turn = if bytes_eq text (epoch host) then image_outcome i a
 
 -- the reply to one who waits for it; memory can run out
 abbrev pub Waits : ImageView → Host → List ℕ → ActorId → ℕ → Reply → Type 0
-Waits i host text a turn r = Tells i (waited i host text a turn) r ⊎ (r ≡ reply.Refused NoMemory)
+Waits i host text a turn r = RepliesOutcome i (waited i host text a turn) r ⊎ (r ≡ reply.Refused NoMemory)
 
 -- ---- statistics
 
@@ -82,7 +82,7 @@ abbrev pub Asks : {H N : Type 0} → (H → ImageView) → (H → N → Call →
     → Host → H → N → Command → Reply → H → N → Type 0
 Asks {H} {N} image Calls host h n (command.Post a args text sender seq) r k m = PostsNamed image Calls h n a args text sender seq r k m
 Asks {H} {N} image Calls host h n (command.Replace class over source) r k m = Replaces image Calls h n class over source r k m
-Asks {H} {N} image Calls host h n (command.Outcome a turn) r k m = Tells (image h) (image_outcome (image h) a turn) r × Nothing h n k m
+Asks {H} {N} image Calls host h n (command.Outcome a turn) r k m = RepliesOutcome (image h) (image_outcome (image h) a turn) r × Nothing h n k m
 Asks {H} {N} image Calls host h n (command.Wait a text ms turn) r k m = Waits (image h) host text a turn r × Nothing h n k m
 Asks {H} {N} image Calls host h n (command.Stats class text) r k m = States (image h) class text r × Nothing h n k m
 Asks {H} {N} image Calls host h n (command.Query q) r k m = Looks (image h) host q r × Nothing h n k m

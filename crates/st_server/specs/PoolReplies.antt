@@ -5,7 +5,7 @@ use Rattle.st_classes.specs.declared.refusals.Refusal.{Refusal}
 use Rattle.st_image.specs.Images.{ImageView}
 use Rattle.st_calls.specs.Growth.{Amounts}
 use Rattle.st_pool.specs.Calling.{PoolCalls}
-use Rattle.st_pool.specs.Done.{Done, Finds, OfficeView}
+use Rattle.st_pool.specs.Done.{Done, Finds, PoolView}
 use Rattle.st_pool.specs.Holds.{IsHold, of_caller}
 use Rattle.st_queries.specs.declared.hosts.Host.{Host}
 use Rattle.st_wire.specs.declared.commands.Command.{Command}
@@ -18,36 +18,36 @@ use Rattle.st_server.specs.CommandReplies.{Asks}
 use Rattle.st_server.specs.Keepers.{IsFault, SavesMoment}
 
 -- the reply is that of the command, in one hold, in which calls are made alone; the calls of the command are made of what lies under the lock
-pub record AsksInHold (o : OfficeView) (d : Done) (c : Command) (r : Reply) (p : OfficeView) (e : Done) : Type 0 where
+pub record AsksInHold (o : PoolView) (d : Done) (c : Command) (r : Reply) (p : PoolView) (e : Done) : Type 0 where
   pub host : Host
   pub asks : Asks (λ x. x.image) PoolCalls host o d c r p e
   pub hold : IsHold of_caller o p
 
 -- what was seen for a query, in a hold that changes nothing
-abbrev pub SeesInHold : OfficeView → Done → Query → Result Sight AllocError → OfficeView → Done → Type 0
+abbrev pub SeesInHold : PoolView → Done → Query → Result Sight AllocError → PoolView → Done → Type 0
 SeesInHold o d q r p e = IfOk r (λ s. s ≡ sight o.image q) × (p ≡ o) × (e ≡ d)
 
 -- what was copied of an image to save it, in a hold that changes nothing
-abbrev pub CopiesInHold : OfficeView → Done → Result MomentView Refusal → OfficeView → Done → Type 0
+abbrev pub CopiesInHold : PoolView → Done → Result MomentView Refusal → PoolView → Done → Type 0
 CopiesInHold o d r p e = IfOk r (λ m. m ≡ moment_of o.image) × IfErr r IsFault × (p ≡ o) × (e ≡ d)
 
 -- the same, in a hold of a session
 abbrev pub CopiesFound : Amounts → ImageView → Done → Result MomentView Refusal → Done → Type 0
-CopiesFound start first d r e = (o : OfficeView) × (p : OfficeView) × Finds start first d o × CopiesInHold o d r p e
+CopiesFound start first d r e = (o : PoolView) × (p : PoolView) × Finds start first d o × CopiesInHold o d r p e
 
 -- the hold in which a command is asked finds an image that goes on from the first one and has at least what the session has done
 abbrev pub AsksFound : Amounts → ImageView → Done → Command → Reply → Done → Type 0
-AsksFound start first d c r e = (o : OfficeView) × (p : OfficeView) × Finds start first d o × AsksInHold o d c r p e
+AsksFound start first d c r e = (o : PoolView) × (p : PoolView) × Finds start first d o × AsksInHold o d c r p e
 
 -- an image is saved as it was in a hold that changes nothing
-abbrev pub SavesInHold : OfficeView → Done → Reply → OfficeView → Done → Type 0
+abbrev pub SavesInHold : PoolView → Done → Reply → PoolView → Done → Type 0
 SavesInHold o d r p e = SavesMoment (moment_of o.image) r × (p ≡ o) × (e ≡ d)
 
 -- what a command does in a hold: `save` copies what is saved behind it, and any other is asked
-abbrev pub ServesInHold : OfficeView → Done → Command → Reply → OfficeView → Done → Type 0
+abbrev pub ServesInHold : PoolView → Done → Command → Reply → PoolView → Done → Type 0
 ServesInHold o d command.Save r p e = SavesInHold o d r p e
 ServesInHold o d c r p e = AsksInHold o d c r p e
 
 -- the same of any command of a session
 abbrev pub Attends : Amounts → ImageView → Done → Command → Reply → Done → Type 0
-Attends start first d c r e = (o : OfficeView) × (p : OfficeView) × Finds start first d o × ServesInHold o d c r p e
+Attends start first d c r e = (o : PoolView) × (p : PoolView) × Finds start first d o × ServesInHold o d c r p e

@@ -40,7 +40,7 @@ const NO_MEMORY: &[u8] = b"{\"error\":\"NoMemory\"}\n";
 /// Where sessions come from, how many are accepted, if they are counted, who is asked to let them in, who is told of their ends, and who
 /// keeps the image where one of them wants it saved.
 #[derive(Drop)]
-pub(crate) struct Door<'a, P, W, S> {
+pub(crate) struct Acceptor<'a, P, W, S> {
     pub(crate) listener: UnixListener,
     pub(crate) sessions: Option<u32>,
     pub(crate) porter: &'a P,
@@ -87,7 +87,7 @@ fn turn_away(mut stream: &UnixStream, line: &[u8]) {
 }
 
 /// Runs a session over a stream.
-fn converse<K: Naming, S: Keeper, R: Wait + Clock>(
+fn serve_stream<K: Naming, S: Keeper, R: Wait + Clock>(
     rt: &R,
     alloc: Global,
     place: Place<'_>,
@@ -117,7 +117,7 @@ fn converse<K: Naming, S: Keeper, R: Wait + Clock>(
 }
 
 /// Runs a session with its own caller, and adds the caller's share to those of ended sessions. Room for it was made before.
-fn talk<K: Naming, W, S: Keeper, R: Wait + Clock>(
+fn run_session<K: Naming, W, S: Keeper, R: Wait + Clock>(
     rt: &R,
     alloc: Global,
     room: &Room<'_, K, W, S>,
@@ -134,19 +134,19 @@ fn talk<K: Naming, W, S: Keeper, R: Wait + Clock>(
         recorder: room.recorder,
         turns: room.turns,
     };
-    let (share, result) = converse(rt, alloc, place, desk, caller, stream);
+    let (share, result) = serve_stream(rt, alloc, place, desk, caller, stream);
     let _ = room.shares.lock(rt).push(share);
     result
 }
 
 /// Runs a session in its thread.
-fn host<K: Naming, W: Witness<R>, S: Keeper, R: Wait + Clock>(
+fn session_thread<K: Naming, W: Witness<R>, S: Keeper, R: Wait + Clock>(
     rt: &R,
     alloc: Global,
     room: &Room<'_, K, W, S>,
     stream: UnixStream,
 ) {
-    let ended = talk(rt, alloc, room, &stream);
+    let ended = run_session(rt, alloc, room, &stream);
     if ended.is_err() {
         drain(&stream);
     }
@@ -219,12 +219,12 @@ fn accept<
     scope: &Scope<'s, E>,
     rt: &'s R,
     alloc: Global,
-    door: &Door<'_, P, W, S>,
+    acceptor: &Acceptor<'_, P, W, S>,
     room: &'s Room<'_, K, W, S>,
 ) -> bool {
-    let porter = door.porter;
-    let mut left = door.sessions;
-    for stream in door.listener.incoming() {
+    let porter = acceptor.porter;
+    let mut left = acceptor.sessions;
+    for stream in acceptor.listener.incoming() {
         if !porter.is_open(rt) {
             return true;
         }
@@ -241,7 +241,7 @@ fn accept<
             continue;
         }
         room.active.fetch_add(1, Ordering::SeqCst);
-        if let Err(refused) = scope.spawn(move || host(rt, alloc, room, stream)) {
+        if let Err(refused) = scope.spawn(move || session_thread(rt, alloc, room, stream)) {
             room.active.fetch_sub(1, Ordering::SeqCst);
             drop(refused);
             continue;
@@ -262,11 +262,11 @@ pub(crate) fn accept_all<
     W: Witness<R> + Sync,
     S: Keeper + Sync,
     R: Threads + Wait + Clock + Sync,
->(rt: &R, alloc: Global, door: Door<'_, P, W, S>, room: &Room<'_, K, W, S>) -> bool {
+>(rt: &R, alloc: Global, acceptor: Acceptor<'_, P, W, S>, room: &Room<'_, K, W, S>) -> bool {
     thread::scope(thread::scope_env(), rt, |scope| -> bool {
-        let is_well = accept(scope, rt, alloc, &door, room);
+        let is_well = accept(scope, rt, alloc, &acceptor, room);
         // The open sessions go on, and whoever connects from here on is refused by the system.
-        drop(door);
+        drop(acceptor);
         is_well
     })
 }

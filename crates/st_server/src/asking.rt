@@ -3,7 +3,7 @@ ghost use Rattle.std.specs.Prelude.{◌≡◌};
 ghost use Rattle.st_image.specs.GoingOn.{GoesOnIn};
 ghost use Rattle.st_server.specs.CallOf.{Makes, RepliesTo, answer_reply};
 ghost use Rattle.st_image.specs.Outcomes.{image_outcome};
-ghost use Rattle.st_server.specs.CommandReplies.{Asks, Tells, Waits};
+ghost use Rattle.st_server.specs.CommandReplies.{Asks, RepliesOutcome, Waits};
 
 use crate::calls_of::call_of;
 use crate::images::Image;
@@ -73,7 +73,7 @@ fn perform<H: Holder<RingBox>>(
 }
 
 pub(crate) fn outcome(alloc: Global, image: &Image, actor: ActorId, turn: u64) -> Reply
-    ensures { Tells image.now (image_outcome image.now actor turn) result }
+    ensures { RepliesOutcome image.now (image_outcome image.now actor turn) result }
 {
     match image.outcome(actor, turn) {
         Ok(Outcome::Answer(value)) => match shown(alloc, image, value) {

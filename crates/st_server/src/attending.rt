@@ -22,7 +22,7 @@ use st_file::moments::Moment;
 use st_pool::callers::Caller;
 use st_pool::holds::Job;
 use st_pool::naming::Naming;
-use st_pool::office::Office;
+use st_pool::pool_state::PoolState;
 use st_pool::shares::CallerShare;
 use st_queries::hosts::Host;
 use st_queries::replying::tell_seen;
@@ -58,11 +58,11 @@ impl<K: Naming> Job<K, Mailbox> for Asking {
     fn run(
         self,
         alloc: Global,
-        office: &mut Office<K, Mailbox>,
+        pool: &mut PoolState<K, Mailbox>,
         mine: &mut CallerShare<K>,
     ) -> Reply {
-        let host = self.host.at(office.checkpoints());
-        ask(alloc, office, mine, host, self.command)
+        let host = self.host.at(pool.checkpoints());
+        ask(alloc, pool, mine, host, self.command)
     }
 }
 
@@ -82,10 +82,10 @@ impl<'a, K: Naming> Job<K, Mailbox> for Seeing<'a> {
     fn run(
         self,
         alloc: Global,
-        office: &mut Office<K, Mailbox>,
+        pool: &mut PoolState<K, Mailbox>,
         _mine: &mut CallerShare<K>,
     ) -> (Result<Sight, AllocError>, u64) {
-        (see(alloc, office.image(), self.query), office.checkpoints())
+        (see(alloc, pool.image(), self.query), pool.checkpoints())
     }
 }
 
@@ -103,10 +103,10 @@ impl<K: Naming> Job<K, Mailbox> for Copying {
     fn run(
         self,
         alloc: Global,
-        office: &mut Office<K, Mailbox>,
+        pool: &mut PoolState<K, Mailbox>,
         _mine: &mut CallerShare<K>,
     ) -> Result<Moment, Refusal> {
-        copied(alloc, office.image())
+        copied(alloc, pool.image())
     }
 }
 
@@ -120,10 +120,10 @@ impl<K: Naming> Job<K, Mailbox> for CopyingBehind {
     fn run(
         self,
         alloc: Global,
-        office: &mut Office<K, Mailbox>,
+        pool: &mut PoolState<K, Mailbox>,
         _mine: &mut CallerShare<K>,
     ) -> Copied {
-        self.copy_in(alloc, office)
+        self.copy_in(alloc, pool)
     }
 }
 

@@ -1,7 +1,7 @@
 //! How far a journal is, and what is told next.
+use crate::journal_batch::{JournalBatch, MOST_TOLD};
 use crate::keepers::JournalSettings;
 use crate::readings::{Behind, Read};
-use crate::telling::{MOST_TOLD, Telling};
 use st_classes::refusals::Refusal;
 use std::alloc::Global;
 
@@ -14,7 +14,7 @@ const STEPS: u64 = 31_250_000;
 #[derive(Drop)]
 pub(crate) struct Progress {
     /// What is told, of the history that was read or else of the present one.
-    pub(crate) telling: Telling,
+    pub(crate) batch: JournalBatch,
     /// What was read of a history that a checkpoint has emptied, until all of it is told.
     pub(crate) past: Option<Read>,
     /// How many steps the image had counted when it was read last.
@@ -29,7 +29,7 @@ impl Progress {
     /// Nothing is told but so many names and items, of an image that has counted so many steps.
     pub(crate) fn new(alloc: Global, names: u32, items: usize, steps: u64) -> Progress {
         Progress {
-            telling: Telling::new(alloc, names, items),
+            batch: JournalBatch::new(alloc, names, items),
             past: None,
             steps,
             most_bytes: u64::MAX,
@@ -52,7 +52,7 @@ impl Progress {
     /// What is to be read next, so many items at most.
     pub(crate) fn behind(&self, most: usize) -> Behind {
         Behind {
-            items: self.telling.items(),
+            items: self.batch.items(),
             most,
             takes_past: self.past.is_none(),
         }
@@ -60,21 +60,21 @@ impl Progress {
 
     /// Tells what was read of the present history. After an error nothing is told.
     pub(crate) fn tell_present(&mut self, alloc: Global, read: &Read) -> Result<(), Refusal> {
-        self.telling
+        self.batch
             .tell(alloc, &read.names, read.table.shown(), &read.items)
     }
 
     /// Tells some of a history that a checkpoint has emptied, and the checkpoint behind the last of it. The answer is whether all is told.
     pub(crate) fn tell_past(&mut self, alloc: Global, read: &Read) -> Result<bool, Refusal> {
-        let from = self.telling.items().min(read.items.len());
+        let from = self.batch.items().min(read.items.len());
         let count = MOST_TOLD.min(read.items.len() - from);
         let (names, table) = (&read.names, read.table.shown());
         if count > 0 {
             let items = &read.items[from..from + count];
-            self.telling.tell(alloc, names, table, items)?;
+            self.batch.tell(alloc, names, table, items)?;
             return Ok(false);
         }
-        self.telling.tell_checkpoint(alloc, names, table)?;
+        self.batch.tell_checkpoint(alloc, names, table)?;
         Ok(true)
     }
 }

@@ -13,7 +13,7 @@ use st_image::items::Item;
 use st_journal::copying::copied_items;
 use st_pool::holds::Reading;
 use st_pool::naming::Naming;
-use st_pool::office::Office;
+use st_pool::pool_state::PoolState;
 use std::alloc::{AllocError, Global};
 
 /// What was read in a hold: items, and the names and the class table by which they can be told.
@@ -44,12 +44,12 @@ impl Behind {
     fn items_in<K: Naming>(
         &self,
         alloc: Global,
-        office: &Office<K, Mailbox>,
+        pool: &PoolState<K, Mailbox>,
     ) -> Result<(Vec<Item>, bool), AllocError> {
         if !self.takes_past {
             return Ok((Vec::new(alloc), true));
         }
-        let history = office.image().history();
+        let history = pool.image().history();
         let all = history.len();
         let from = self.items.min(all);
         let count = self.most.min(all - from);
@@ -61,15 +61,15 @@ impl Behind {
     fn read_in<K: Naming>(
         &self,
         alloc: Global,
-        office: &mut Office<K, Mailbox>,
+        pool: &mut PoolState<K, Mailbox>,
     ) -> Result<Read, AllocError>
-        ensures { office.new ≡ office.old }
+        ensures { pool.new ≡ pool.old }
     {
-        let names = office.image().names().again()?;
-        let table = office.image().token().again()?;
-        let steps = office.image().counted().steps;
+        let names = pool.image().names().again()?;
+        let table = pool.image().token().again()?;
+        let steps = pool.image().counted().steps;
         if self.takes_past {
-            if let Some(items) = office.take_past() {
+            if let Some(items) = pool.take_past() {
                 return Ok(Read {
                     names,
                     table,
@@ -80,7 +80,7 @@ impl Behind {
                 });
             }
         }
-        let (items, is_left) = self.items_in(alloc, office)?;
+        let (items, is_left) = self.items_in(alloc, pool)?;
         Ok(Read {
             names,
             table,
@@ -95,8 +95,8 @@ impl Behind {
 impl<K: Naming> Reading<K, Mailbox> for Behind {
     type Out = Result<Read, AllocError>;
 
-    fn read(self, alloc: Global, office: &mut Office<K, Mailbox>) -> Result<Read, AllocError> {
-        self.read_in(alloc, office)
+    fn read(self, alloc: Global, pool: &mut PoolState<K, Mailbox>) -> Result<Read, AllocError> {
+        self.read_in(alloc, pool)
     }
 }
 
@@ -122,15 +122,15 @@ impl CopyingBehind {
     pub(crate) fn copy_in<K: Naming>(
         &self,
         alloc: Global,
-        office: &mut Office<K, Mailbox>,
+        pool: &mut PoolState<K, Mailbox>,
     ) -> Copied
-        ensures same { office.new ≡ office.old }
-        ensures moment { IfOk result.0 (λ m. m ≡ moment_of office.old.image) }
+        ensures same { pool.new ≡ pool.old }
+        ensures moment { IfOk result.0 (λ m. m ≡ moment_of pool.old.image) }
         ensures fault { IfErr result.0 IsFault }
     {
-        let read = self.behind.read_in(alloc, office);
+        let read = self.behind.read_in(alloc, pool);
         if is_all(&read) {
-            (copied(alloc, office.image()), read)
+            (copied(alloc, pool.image()), read)
         } else {
             (Err(Refusal::NoMemory), read)
         }
@@ -140,7 +140,7 @@ impl CopyingBehind {
 impl<K: Naming> Reading<K, Mailbox> for CopyingBehind {
     type Out = Copied;
 
-    fn read(self, alloc: Global, office: &mut Office<K, Mailbox>) -> Copied {
-        self.copy_in(alloc, office)
+    fn read(self, alloc: Global, pool: &mut PoolState<K, Mailbox>) -> Copied {
+        self.copy_in(alloc, pool)
     }
 }

@@ -174,8 +174,8 @@ impl<'a, K: Naming, S: Keeper> Recorder<'a, K, S> {
         progress: &mut Progress,
     ) -> Result<(), Refusal> {
         for _ in 0..READINGS {
-            if progress.telling.is_much() {
-                progress.telling.write(alloc, self.keeper)?;
+            if progress.batch.is_much() {
+                progress.batch.write(alloc, self.keeper)?;
             }
             if !self.tell_some(rt, alloc, progress)? {
                 return Ok(());
@@ -193,7 +193,7 @@ impl<'a, K: Naming, S: Keeper> Recorder<'a, K, S> {
     ) -> Result<(), Refusal> {
         let number = self.rounds.fetch_add(1, Ordering::SeqCst).wrapping_add(1);
         self.tell_all(rt, alloc, progress)?;
-        progress.telling.write(alloc, self.keeper)?;
+        progress.batch.write(alloc, self.keeper)?;
         self.ended.store(number, Ordering::SeqCst);
         Ok(())
     }
@@ -352,7 +352,7 @@ impl<'a, K: Naming, S: Keeper> Recorder<'a, K, S> {
         if self.take_in(alloc, progress, read)? {
             return Ok(None);
         }
-        progress.telling.write(alloc, self.keeper)?;
+        progress.batch.write(alloc, self.keeper)?;
         Ok(Some(self.keeper.end()))
     }
 

@@ -9,7 +9,7 @@ ghost use Rattle.st_pool.specs.Holds.{IsRun};
 ghost use Rattle.st_pool.specs.Settled.{AreCounts, AreSums, HaveStood};
 ghost use Rattle.st_server.specs.Serving.{AreInRange, HaveServed};
 
-use crate::accepting::{Door, Room, accept_all};
+use crate::accepting::{Acceptor, Room, accept_all};
 use crate::images::{Image, Mailbox, Worker};
 use crate::keepers::{Keeper, Nobody};
 use crate::porters::{FaultList, OpenDoor, Porter, Witness};
@@ -22,7 +22,7 @@ use st_classes::refusals::Refusal;
 use st_image::settings::Settings;
 use st_pool::accounts::Accounts;
 use st_pool::books::Blanks;
-use st_pool::front::Opened;
+use st_pool::known_prefix::Opened;
 use st_pool::naming::Naming;
 use st_pool::settling::{Shares, settle_image};
 use st_pool::shared::Shared;
@@ -157,7 +157,7 @@ fn run_workers<
 >(
     rt: &R,
     alloc: Global,
-    door: Door<'_, P, W, S>,
+    acceptor: Acceptor<'_, P, W, S>,
     room: &Room<'_, K, W, S>,
     workers: Vec<Worker>,
 ) -> (Vec<Ended<K>>, bool) {
@@ -167,7 +167,7 @@ fn run_workers<
         let is_recorded = start_recorder(scope, rt, alloc, room);
         let handles = start(scope, rt, alloc, shared, workers);
         let is_started = is_recorded && handles.len() == count;
-        let are_accepted = is_started && accept_all(rt, alloc, door, room);
+        let are_accepted = is_started && accept_all(rt, alloc, acceptor, room);
         shared.stop(rt);
         room.recorder.end(rt);
         (handles, are_accepted)
@@ -184,7 +184,7 @@ fn work<
 >(
     rt: &R,
     alloc: Global,
-    door: Door<'_, P, W, S>,
+    acceptor: Acceptor<'_, P, W, S>,
     room: &Room<'_, K, W, S>,
     workers: Vec<Worker>,
 ) -> Result<(Vec<WorkerShare<K>>, bool), Refusal>
@@ -193,7 +193,7 @@ fn work<
 {
     let count = workers.len();
     let shares = Vec::with_capacity(alloc, count)?;
-    let (handles, are_accepted) = run_workers(rt, alloc, door, room, workers);
+    let (handles, are_accepted) = run_workers(rt, alloc, acceptor, room, workers);
     if handles.len() != count {
         return Err(Refusal::NoMemory);
     }
@@ -242,7 +242,7 @@ fn serve_shared<
     alloc: Global,
     shared: &'a Shared<K, Mailbox>,
     told: Told,
-    door: Door<'a, P, W, S>,
+    acceptor: Acceptor<'a, P, W, S>,
     workers: Vec<Worker>,
 ) -> Result<Left<K>, Refusal>
     ensures workers { IfOk result (λ l. vec_len l.shares.workers ≡ vec_len workers) }
@@ -251,7 +251,7 @@ fn serve_shared<
     let recorder = Recorder::new(
         alloc,
         shared,
-        door.keeper,
+        acceptor.keeper,
         told.names,
         told.items,
         told.steps,
@@ -269,14 +269,14 @@ fn serve_shared<
         shares: &shares,
         accounts: &accounts,
         active: &active,
-        witness: door.witness,
-        keeper: door.keeper,
+        witness: acceptor.witness,
+        keeper: acceptor.keeper,
         recorder: &recorder,
         turns: &turns,
         start: now(rt),
         workers: workers.len() as u64,
     };
-    let (workers, are_accepted) = work(rt, alloc, door, &room, workers)?;
+    let (workers, are_accepted) = work(rt, alloc, acceptor, &room, workers)?;
     recorder.write_all(rt, alloc);
     drop(recorder);
     let callers = shares.into_inner();
@@ -304,7 +304,7 @@ fn serve<
     image: Image,
     blanks: Blanks,
     opened: Opened,
-    door: Door<'_, P, W, S>,
+    acceptor: Acceptor<'_, P, W, S>,
     workers: Vec<Worker>,
 ) -> Result<Served, Refusal>
     requires posts { blanks.posts.name ≡ K.posts }
@@ -333,7 +333,7 @@ fn serve<
         shares,
         room,
         are_accepted,
-    } = serve_shared(rt, alloc, &shared, told, door, workers)?;
+    } = serve_shared(rt, alloc, &shared, told, acceptor, workers)?;
     let (image, totals, accounts) = settle_image(shared, shares, room)?;
     let fault = fault_of(are_accepted);
     Ok(Served {
@@ -406,7 +406,7 @@ pub fn serve_image<
         drop(image);
         return Err(Refusal::NoMemory);
     };
-    let door = Door {
+    let acceptor = Acceptor {
         listener,
         sessions,
         porter,
@@ -419,7 +419,7 @@ pub fn serve_image<
         image,
         Blanks::new(),
         Opened::new(),
-        door,
+        acceptor,
         workers,
     )
 }

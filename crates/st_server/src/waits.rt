@@ -4,7 +4,7 @@ use st_classes::refusals::Refusal;
 use st_classes::values::ActorId;
 use st_pool::holds::Condition;
 use st_pool::naming::Naming;
-use st_pool::office::Office;
+use st_pool::pool_state::PoolState;
 use st_queries::hosts::{Host, epoch};
 use st_wire::commands::Command;
 use std::alloc::Global;
@@ -50,10 +50,10 @@ impl TurnEnd {
 }
 
 impl<K: Naming> Condition<K, Mailbox> for TurnEnd {
-    fn holds(&self, office: &Office<K, Mailbox>) -> bool {
-        office.checkpoints() != self.checkpoints
+    fn holds(&self, pool: &PoolState<K, Mailbox>) -> bool {
+        pool.checkpoints() != self.checkpoints
             || !matches!(
-                office.image().outcome(self.actor, self.turn),
+                pool.image().outcome(self.actor, self.turn),
                 Err(Refusal::Pending)
             )
     }

@@ -6,7 +6,7 @@ use Rattle.st_classes.specs.declared.refusals.Refusal.{Refusal}
 use Rattle.st_system.specs.declared.events.Answer.{Answer}
 use Rattle.st_system.specs.declared.events.Event.{Event}
 use Rattle.st_system.specs.Happening.{Happen, Happens}
-use Rattle.st_system.specs.Seats.{SystemView}
+use Rattle.st_system.specs.SystemWorkers.{SystemView}
 
 pub happen_push : {G : Type 0} (count : G → ℕ) (floor : G → Selector → ℕ) (raises : Edit → Selector → Bool) (S M T : SystemView G) (es : List Event) (e : Event) (r : Result Answer Refusal)
     → Happen count floor raises S es M → Happens count floor raises M e r T → Happen count floor raises S (es ++ e ∷ []) T

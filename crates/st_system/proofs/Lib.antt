@@ -1,4 +1,4 @@
-pub mod Seats
+pub mod SystemWorkers
 pub mod ClaimsSeen
 pub mod WorkersActing
 pub mod EventRuns
@@ -6,4 +6,4 @@ pub mod Happening
 pub mod Uncommitting
 pub mod Keeping
 pub mod Segmenting
-pub mod OtherSeats
+pub mod OtherWorkers

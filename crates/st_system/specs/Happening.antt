@@ -9,15 +9,15 @@ use Rattle.st_system.specs.Acts.{Acts}
 use Rattle.st_system.specs.Forgetting.{HasForgotten}
 use Rattle.st_system.specs.Others.{LeavesOthers}
 use Rattle.st_system.specs.Schedules.{schedule}
-use Rattle.st_system.specs.Seats.{SystemView}
+use Rattle.st_system.specs.SystemWorkers.{SystemView}
 use Rattle.st_system.specs.WorkerEvents.{TellsWork}
 
 -- what an event does: to the schedule, to the caches of a worker that forgets, to the other workers, and to the whole of its own
 pub record Happens {G : Type 0} (count : G → ℕ) (floor : G → Selector → ℕ) (raises : Edit → Selector → Bool)
     (S : SystemView G) (e : Event) (r : Result Answer Refusal) (T : SystemView G) : Type 0 where
   pub acts : Acts (schedule S) e r (schedule T)
-  pub forgotten : HasForgotten e T.seats
-  pub others : LeavesOthers e S.seats T.seats
+  pub forgotten : HasForgotten e T.workers
+  pub others : LeavesOthers e S.workers T.workers
   pub work : TellsWork count floor raises S e r T
 
 -- events, one after the other

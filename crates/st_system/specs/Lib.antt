@@ -1,5 +1,5 @@
 pub mod Schedules
-pub mod Seats
+pub mod SystemWorkers
 pub mod ClaimEvents
 pub mod ImageEvents
 pub mod Acts

@@ -7,7 +7,7 @@ use Rattle.st_turn.specs.declared.body.Body.{Body}
 use Rattle.st_turn.specs.declared.claim.Sent.{Sent}
 use Rattle.st_turn.specs.Claims.{ClaimView}
 use Rattle.st_image.specs.Images.{ImageView}
-use Rattle.st_system.specs.Seats.{SeatView, SystemView}
+use Rattle.st_system.specs.SystemWorkers.{SystemView, WorkerView}
 
 -- a claim without its sends and its stamp: the steps of an actor at the edits of a class table, and the bodies before and after them
 pub record BareClaim : Type 0 where
@@ -39,9 +39,9 @@ pub record Schedule : Type 0 where
   pub claims : List (Option BareClaim)
 
 -- what a schedule sees of a worker
-abbrev pub claim_of : {G : Type 0} → SeatView G → Option BareClaim
+abbrev pub claim_of : {G : Type 0} → WorkerView G → Option BareClaim
 claim_of s = option_map bare s.claim
 
 -- what a schedule sees of a system
 abbrev pub schedule : {G : Type 0} → SystemView G → Schedule
-schedule s = record { image = s.image; claims = map claim_of s.seats }
+schedule s = record { image = s.image; claims = map claim_of s.workers }

@@ -17,16 +17,16 @@ use Rattle.st_system.specs.declared.events.Event.{Event}
 use Rattle.st_system.specs.declared.events.Event.TheVariants.{Checkout, Commit, Forget, Local, Release}
 use Rattle.st_calls.specs.Does.{told}
 use Rattle.st_system.specs.ClaimEvents.{told_of_commit}
-use Rattle.st_system.specs.Seats.{SeatView, SystemView}
+use Rattle.st_system.specs.SystemWorkers.{SystemView, WorkerView}
 
 -- An event of a worker does this to the image and to the worker, and nothing to the others. If there is no such worker, it changes none.
-abbrev pub AtSeat : {G : Type 0}
-    → (ImageView → SeatView G → Result Answer Refusal → ImageView → SeatView G → Type 0)
-    → SystemView G → ℕ → Result Answer Refusal → SystemView G → Option (SeatView G) → Type 0
-AtSeat Does S w r T None = T.seats ≡ S.seats
-AtSeat {G} Does S w r T (Some s) = (t : SeatView G)
+abbrev pub AtSystemWorker : {G : Type 0}
+    → (ImageView → WorkerView G → Result Answer Refusal → ImageView → WorkerView G → Type 0)
+    → SystemView G → ℕ → Result Answer Refusal → SystemView G → Option (WorkerView G) → Type 0
+AtSystemWorker Does S w r T None = T.workers ≡ S.workers
+AtSystemWorker {G} Does S w r T (Some s) = (t : WorkerView G)
     × Does S.image s r T.image t
-    × (T.seats ≡ slice_set S.seats w t)
+    × (T.workers ≡ slice_set S.workers w t)
 
 -- ---- checkout and release
 
@@ -36,10 +36,10 @@ taken_out (Ok c) = Some c
 taken_out (Err e) = None
 
 -- a worker without a claim is given the claim of the checkout; a worker with a claim stays as it is
-abbrev pub ChecksOutSeat : {G : Type 0} → ActorId → ImageView → SeatView G → Option ClaimView → Result Answer Refusal
-    → ImageView → SeatView G → Type 0
-ChecksOutSeat a i s (Some c) r j t = t ≡ s
-ChecksOutSeat a i s None r j t = (result : Result ClaimView Refusal)
+abbrev pub WorkerChecksOut : {G : Type 0} → ActorId → ImageView → WorkerView G → Option ClaimView → Result Answer Refusal
+    → ImageView → WorkerView G → Type 0
+WorkerChecksOut a i s (Some c) r j t = t ≡ s
+WorkerChecksOut a i s None r j t = (result : Result ClaimView Refusal)
     × (r ≡ told (λ _. Done) result)
     × ChecksOut i a result j
     × (t ≡ record s { claim = taken_out result })
@@ -56,10 +56,10 @@ pub record MovesAndSteps {G : Type 0} (count : G → ℕ) (floor : G → Selecto
   pub steps : Steps floor moved c stop w d
 
 -- a worker steps its claim; without one it stays as it is
-abbrev pub StepsSeat : {G : Type 0} → (G → ℕ) → (G → Selector → ℕ) → (Edit → Selector → Bool) → SeatView G
-    → Option ClaimView → Result Answer Refusal → SeatView G → Type 0
-StepsSeat count floor raises s None r t = t ≡ s
-StepsSeat count floor raises s (Some c) r t = (d : ClaimView)
+abbrev pub WorkerTakesStep : {G : Type 0} → (G → ℕ) → (G → Selector → ℕ) → (Edit → Selector → Bool) → WorkerView G
+    → Option ClaimView → Result Answer Refusal → WorkerView G → Type 0
+WorkerTakesStep count floor raises s None r t = t ≡ s
+WorkerTakesStep count floor raises s (Some c) r t = (d : ClaimView)
     × MovesAndSteps count floor raises s.caches c r t.caches d
     × (t.claim ≡ Some d)
 
@@ -72,10 +72,10 @@ given_back (Err refused) = refused.1
 
 -- a worker commits its claim, with its sends and its stamp, and keeps its caches and what is handed back; without a claim it stays as
 -- it is
-abbrev pub CommitsSeat : {G : Type 0} → ImageView → SeatView G → Option ClaimView → Result Answer Refusal → ImageView
-    → SeatView G → Type 0
-CommitsSeat i s None r j t = t ≡ s
-CommitsSeat i s (Some c) r j t = (result : Result ℕ (Refusal × Option ClaimView))
+abbrev pub WorkerCommits : {G : Type 0} → ImageView → WorkerView G → Option ClaimView → Result Answer Refusal → ImageView
+    → WorkerView G → Type 0
+WorkerCommits i s None r j t = t ≡ s
+WorkerCommits i s (Some c) r j t = (result : Result ℕ (Refusal × Option ClaimView))
     × (r ≡ told_of_commit result)
     × Commits i c result j
     × (t ≡ record s { claim = given_back result })
@@ -86,13 +86,13 @@ CommitsSeat i s (Some c) r j t = (result : Result ℕ (Refusal × Option ClaimVi
 abbrev pub TellsWork : {G : Type 0} → (G → ℕ) → (G → Selector → ℕ) → (Edit → Selector → Bool) → SystemView G → Event
     → Result Answer Refusal → SystemView G → Type 0
 TellsWork count floor raises S (Checkout w a) r T =
-    AtSeat (λ i s answer j t. ChecksOutSeat a i s s.claim answer j t) S w r T (slice_get S.seats w)
+    AtSystemWorker (λ i s answer j t. WorkerChecksOut a i s s.claim answer j t) S w r T (slice_get S.workers w)
 TellsWork count floor raises S (Local w) r T =
-    AtSeat (λ i s answer j t. StepsSeat count floor raises s s.claim answer t) S w r T (slice_get S.seats w)
+    AtSystemWorker (λ i s answer j t. WorkerTakesStep count floor raises s s.claim answer t) S w r T (slice_get S.workers w)
 TellsWork count floor raises S (Commit w) r T =
-    AtSeat (λ i s answer j t. CommitsSeat i s s.claim answer j t) S w r T (slice_get S.seats w)
+    AtSystemWorker (λ i s answer j t. WorkerCommits i s s.claim answer j t) S w r T (slice_get S.workers w)
 TellsWork count floor raises S (Release w) r T =
-    AtSeat (λ i s answer j t. t ≡ record s { claim = None }) S w r T (slice_get S.seats w)
+    AtSystemWorker (λ i s answer j t. t ≡ record s { claim = None }) S w r T (slice_get S.workers w)
 TellsWork count floor raises S (Forget w) r T =
-    AtSeat (λ i s answer j t. t.claim ≡ s.claim) S w r T (slice_get S.seats w)
+    AtSystemWorker (λ i s answer j t. t.claim ≡ s.claim) S w r T (slice_get S.workers w)
 TellsWork count floor raises S e r T = Unit {0}

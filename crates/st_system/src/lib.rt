@@ -8,5 +8,5 @@
 mod copies;
 pub mod events;
 pub mod laws;
-pub mod seat;
 pub mod system;
+pub mod system_worker;

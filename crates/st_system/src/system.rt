@@ -11,7 +11,7 @@ ghost use Rattle.st_system.specs.Forgetting.{HasForgotten};
 ghost use Rattle.st_system.specs.Happening.{Happen};
 ghost use Rattle.st_system.specs.Others.{LeavesOthers};
 ghost use Rattle.st_system.specs.Schedules.{schedule};
-ghost use Rattle.st_system.specs.Seats.{AreValidWhereKept, TakesSeat};
+ghost use Rattle.st_system.specs.SystemWorkers.{AreValidWhereKept, JoinsSystem};
 ghost use Rattle.st_system.specs.Segments.{HasSegments, IsSegment};
 ghost use Rattle.st_system.specs.WorkerEvents.{TellsWork};
 
@@ -19,7 +19,7 @@ mod image_events;
 mod worker_events;
 
 use crate::events::{Answer, Event};
-use crate::seat::Seat;
+use crate::system_worker::SystemWorker;
 use st_classes::refusals::Refusal;
 use st_classes::version::Version;
 use st_guard::guard::Guard;
@@ -33,33 +33,33 @@ use std::marker::Model;
 #[derive(Drop)]
 pub struct System<M: Mailbox, G: Guard> {
     image: Image<M>,
-    seats: Vec<Seat<G>>,
+    workers: Vec<SystemWorker<G>>,
 }
 
 impl<M: Mailbox, G: Guard> Model for System<M, G> {
     ghost use Rattle.std.specs.Prelude.{All};
-    ghost use Rattle.st_system.specs.Seats.{FitsSeat, SystemView};
+    ghost use Rattle.st_system.specs.SystemWorkers.{FitsWorker, SystemView};
 
     ghost Value = { SystemView G };
 
-    ghost view = { λ s. record { image = s.image; seats = s.seats.items } };
+    ghost view = { λ s. record { image = s.image; workers = s.workers.items } };
 
-    ghost invariant = { λ s. All (FitsSeat s.image) s.seats.items };
+    ghost invariant = { λ s. All (FitsWorker s.image) s.workers.items };
 }
 
-/// A seat for each worker, in a system with this class table.
-fn seats_of<G: Guard>(
+/// Each worker as it joins a system with this class table.
+fn joined_workers<G: Guard>(
     alloc: Global,
     workers: Vec<Worker<G>>,
     version: &Version,
-) -> Result<Vec<Seat<G>>, AllocError>
-    ensures { IfOk result (λ seats. AllZip (TakesSeat version.now) workers.items seats.items) }
+) -> Result<Vec<SystemWorker<G>>, AllocError>
+    ensures { IfOk result (λ joined. AllZip (JoinsSystem version.now) workers.items joined.items) }
 {
-    let mut seats = Vec::with_capacity(alloc, workers.len())?;
+    let mut joined = Vec::with_capacity(alloc, workers.len())?;
     for worker in workers {
-        seats.push(Seat::new(worker, version))?;
+        joined.push(SystemWorker::new(worker, version))?;
     }
-    Ok(seats)
+    Ok(joined)
 }
 
 impl<M: Mailbox, G: Guard> System<M, G> {
@@ -71,10 +71,13 @@ impl<M: Mailbox, G: Guard> System<M, G> {
         workers: Vec<Worker<G>>,
     ) -> Result<System<M, G>, AllocError>
         ensures image { IfOk result (λ s. s.image ≡ image) }
-        ensures seats { IfOk result (λ s. AllZip (TakesSeat (world image).edits) workers.items s.seats) }
+        ensures workers { IfOk result (λ s. AllZip (JoinsSystem (world image).edits) workers.items s.workers) }
     {
-        let seats = seats_of(alloc, workers, image.version())?;
-        Ok(System { image, seats })
+        let joined = joined_workers(alloc, workers, image.version())?;
+        Ok(System {
+            image,
+            workers: joined,
+        })
     }
 
     /// The image.
@@ -86,17 +89,17 @@ impl<M: Mailbox, G: Guard> System<M, G> {
 
     /// How many workers there are.
     pub fn workers(&self) -> usize
-        ensures { result ≡ length self.now.seats }
+        ensures { result ≡ length self.now.workers }
     {
-        self.seats.len()
+        self.workers.len()
     }
 
     /// If a worker's caches keep a list of edits, they are valid at it.
     fn known_caches(&self)
-        ensures { All (λ s. AreValidWhereKept G.count G.floor s.caches) self.now.seats }
+        ensures { All (λ s. AreValidWhereKept G.count G.floor s.caches) self.now.workers }
     {
-        for seat in &self.seats {
-            seat.known_caches();
+        for worker in &self.workers {
+            worker.known_caches();
         }
     }
 
@@ -107,7 +110,7 @@ impl<M: Mailbox, G: Guard> System<M, G> {
         ensures replay { IsLawful self.now.image }
         ensures delivered { HasDelivered self.now.image }
         ensures sent { EachStepRan self.now.image }
-        ensures caches { All (λ s. AreValidWhereKept G.count G.floor s.caches) self.now.seats }
+        ensures caches { All (λ s. AreValidWhereKept G.count G.floor s.caches) self.now.workers }
     {
         self.image.known();
         self.image.delivered();
@@ -129,8 +132,8 @@ impl<M: Mailbox, G: Guard> System<M, G> {
     /// with its sends and its stamp.
     pub fn apply(&mut self, alloc: Global, event: &Event) -> Result<Answer, Refusal>
         ensures acts { Acts (schedule self.old) event.now result (schedule self.new) }
-        ensures forgotten { HasForgotten event.now self.new.seats }
-        ensures others { LeavesOthers event.now self.old.seats self.new.seats }
+        ensures forgotten { HasForgotten event.now self.new.workers }
+        ensures others { LeavesOthers event.now self.old.workers self.new.workers }
         ensures work { TellsWork G.count G.floor G.raises self.old event.now result self.new }
     {
         match event {
@@ -164,7 +167,7 @@ impl<M: Mailbox, G: Guard> System<M, G> {
         ensures replay { IsLawful self.new.image }
         ensures delivered { HasDelivered self.new.image }
         ensures sent { EachStepRan self.new.image }
-        ensures caches { All (λ s. AreValidWhereKept G.count G.floor s.caches) self.new.seats }
+        ensures caches { All (λ s. AreValidWhereKept G.count G.floor s.caches) self.new.workers }
     {
         self.known_segment();
         for event in events {

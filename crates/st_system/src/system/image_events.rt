@@ -37,7 +37,7 @@ impl<M: Mailbox, G: Guard> System<M, G> {
     /// A text is interned. It is not copied for that.
     fn intern(&mut self, alloc: Global, text: &[u8]) -> Result<Answer, Refusal>
         ensures acts { Acts (schedule self.old) (CallOf (calls.Intern text.now)) result (schedule self.new) }
-        ensures others { LeavesOthers (CallOf (calls.Intern text.now)) self.old.seats self.new.seats }
+        ensures others { LeavesOthers (CallOf (calls.Intern text.now)) self.old.workers self.new.workers }
     {
         let answer = intern(alloc, &mut self.image, text);
         called(answer)
@@ -47,7 +47,7 @@ impl<M: Mailbox, G: Guard> System<M, G> {
     fn copied(&mut self, alloc: Global, call: &Call) -> Result<Answer, Refusal>
         requires { has_texts call.now ≡ copies call.now }
         ensures acts { Acts (schedule self.old) (CallOf call.now) result (schedule self.new) }
-        ensures others { LeavesOthers (CallOf call.now) self.old.seats self.new.seats }
+        ensures others { LeavesOthers (CallOf call.now) self.old.workers self.new.workers }
     {
         let call = copy_call(alloc, call)?;
         match apply(alloc, &mut self.image, call) {
@@ -58,7 +58,7 @@ impl<M: Mailbox, G: Guard> System<M, G> {
 
     pub(super) fn call(&mut self, alloc: Global, call: &Call) -> Result<Answer, Refusal>
         ensures acts { Acts (schedule self.old) (CallOf call.now) result (schedule self.new) }
-        ensures others { LeavesOthers (CallOf call.now) self.old.seats self.new.seats }
+        ensures others { LeavesOthers (CallOf call.now) self.old.workers self.new.workers }
     {
         match call {
             Call::Intern(text) => self.intern(alloc, text.as_slice()),

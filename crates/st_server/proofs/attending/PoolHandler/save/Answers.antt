@@ -1,5 +1,5 @@
 use Rattle.std.proofs.Common.{subst}
-use Rattle.st_pool.specs.Done.{Done, Finds, OfficeView}
+use Rattle.st_pool.specs.Done.{Done, Finds, PoolView}
 use Rattle.st_wire.specs.declared.commands.Command.TheVariants as command
 use Rattle.st_server.specs.PoolReplies.{ServesInHold}
 use Rattle.st_server.proofs.Keeping.{copied_saves}

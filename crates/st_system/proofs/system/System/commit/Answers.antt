@@ -3,11 +3,11 @@ use Rattle.std.specs.Prelude.{length, slice_get, slice_set}
 use Rattle.std.proofs.lemmas.Option.{slice_get_read}
 use Rattle.st_system.specs.ClaimEvents.{AtWorker, OfClaim, CommitsClaim}
 use Rattle.st_system.specs.Schedules.{schedule}
-use Rattle.st_system.specs.Seats.{SystemView, FitsSeat}
-use Rattle.st_system.proofs.Seats.{all_set}
-use Rattle.st_system.specs.WorkerEvents.{CommitsSeat, TellsWork}
-use Rattle.st_system.proofs.WorkersActing.{seat_acts, worker_acts, no_seat, no_worker}
-use Rattle.st_system.proofs.OtherSeats.{leaves_others, leaves_all}
+use Rattle.st_system.specs.SystemWorkers.{SystemView, FitsWorker}
+use Rattle.st_system.proofs.SystemWorkers.{all_set}
+use Rattle.st_system.specs.WorkerEvents.{TellsWork, WorkerCommits}
+use Rattle.st_system.proofs.WorkersActing.{system_worker_acts, worker_acts, no_system_worker, no_worker}
+use Rattle.st_system.proofs.OtherWorkers.{leaves_others, leaves_all}
 use Rattle.st_system.specs.declared.events.Event.TheVariants.{Commit}
 use Rattle.st_system.specs.Others.{LeavesOthers}
 use Rattle.st_classes.specs.declared.refusals.Refusal.TheVariants.{BadArguments}
@@ -16,49 +16,49 @@ use Rattle.st_system.proofs.system.System.commit.Goals as goal
 
 pub invariant_of-self : goal.invariant_of-self
 invariant_of-self g c =
-    all_set c.self.inside.image c.commit.new.image c.self.inside.seats.items c.args.worker c.commit.new.self c.commit.ensures.later c.self.invariant c.commit.ensures.fits
+    all_set c.self.inside.image c.commit.new.image c.self.inside.workers.items c.args.worker c.commit.new.self c.commit.ensures.later c.self.invariant c.commit.ensures.fits
 
 pub returns-clause-acts : goal.returns-clause-acts
 returns-clause-acts g c =
-    let there : slice_get c.self.inside.seats.items c.args.worker ≡ Some c.index_mut-seat.result.now = slice_get_read c.self.inside.seats.items (length c.self.inside.seats.items) c.args.worker c.index_mut-seat.result.now refl (search rules) c.index_mut-seat.ensures.value in
-    let S : SystemView g.row.G.Denot = record { image = c.self.inside.image; seats = c.self.inside.seats.items } in
-    let T : SystemView g.row.G.Denot = record { image = c.commit.new.image; seats = slice_set c.self.inside.seats.items c.args.worker c.commit.new.self } in
-    let acts = worker_acts (OfClaim CommitsClaim) S T c.args.worker c.index_mut-seat.result.now c.commit.new.self c.commit.result there refl c.commit.ensures.acts in
+    let there : slice_get c.self.inside.workers.items c.args.worker ≡ Some c.index_mut-system_worker.result.now = slice_get_read c.self.inside.workers.items (length c.self.inside.workers.items) c.args.worker c.index_mut-system_worker.result.now refl (search rules) c.index_mut-system_worker.ensures.value in
+    let S : SystemView g.row.G.Denot = record { image = c.self.inside.image; workers = c.self.inside.workers.items } in
+    let T : SystemView g.row.G.Denot = record { image = c.commit.new.image; workers = slice_set c.self.inside.workers.items c.args.worker c.commit.new.self } in
+    let acts = worker_acts (OfClaim CommitsClaim) S T c.args.worker c.index_mut-system_worker.result.now c.commit.new.self c.commit.result there refl c.commit.ensures.acts in
     subst (λ (X : SystemView g.row.G.Denot). AtWorker (OfClaim CommitsClaim) (schedule X) c.args.worker c.commit.result (schedule T) (slice_get (schedule X).claims c.args.worker)) c.self.view_is acts
 
 pub returns-clause-others : goal.returns-clause-others
 returns-clause-others g c =
-    let seats = c.self.inside.seats.items in
-    let there : slice_get seats c.args.worker ≡ Some c.index_mut-seat.result.now = slice_get_read seats (length seats) c.args.worker c.index_mut-seat.result.now refl (search rules) c.index_mut-seat.ensures.value in
-    let others = leaves_others (Commit c.args.worker) c.args.worker seats c.index_mut-seat.result.now c.commit.new.self refl there (λ apart. c.commit.ensures.caches) in
-    subst (λ (X : SystemView g.row.G.Denot). LeavesOthers (Commit c.args.worker) X.seats (slice_set seats c.args.worker c.commit.new.self)) c.self.view_is others
+    let workers = c.self.inside.workers.items in
+    let there : slice_get workers c.args.worker ≡ Some c.index_mut-system_worker.result.now = slice_get_read workers (length workers) c.args.worker c.index_mut-system_worker.result.now refl (search rules) c.index_mut-system_worker.ensures.value in
+    let others = leaves_others (Commit c.args.worker) c.args.worker workers c.index_mut-system_worker.result.now c.commit.new.self refl there (λ apart. c.commit.ensures.caches) in
+    subst (λ (X : SystemView g.row.G.Denot). LeavesOthers (Commit c.args.worker) X.workers (slice_set workers c.args.worker c.commit.new.self)) c.self.view_is others
 
 pub returns-clause-work : goal.returns-clause-work
 returns-clause-work g c =
-    let seats = c.self.inside.seats.items in
-    let there : slice_get seats c.args.worker ≡ Some c.index_mut-seat.result.now = slice_get_read seats (length seats) c.args.worker c.index_mut-seat.result.now refl (search rules) c.index_mut-seat.ensures.value in
-    let S : SystemView g.row.G.Denot = record { image = c.self.inside.image; seats = seats } in
-    let T : SystemView g.row.G.Denot = record { image = c.commit.new.image; seats = slice_set seats c.args.worker c.commit.new.self } in
-    let work = seat_acts (λ i s answer j t. CommitsSeat i s s.claim answer j t) S T c.args.worker c.index_mut-seat.result.now c.commit.new.self c.commit.result there refl c.commit.ensures.whole in
+    let workers = c.self.inside.workers.items in
+    let there : slice_get workers c.args.worker ≡ Some c.index_mut-system_worker.result.now = slice_get_read workers (length workers) c.args.worker c.index_mut-system_worker.result.now refl (search rules) c.index_mut-system_worker.ensures.value in
+    let S : SystemView g.row.G.Denot = record { image = c.self.inside.image; workers = workers } in
+    let T : SystemView g.row.G.Denot = record { image = c.commit.new.image; workers = slice_set workers c.args.worker c.commit.new.self } in
+    let work = system_worker_acts (λ i s answer j t. WorkerCommits i s s.claim answer j t) S T c.args.worker c.index_mut-system_worker.result.now c.commit.new.self c.commit.result there refl c.commit.ensures.whole in
     subst (λ (X : SystemView g.row.G.Denot). TellsWork g.G.Guard.count g.G.Guard.floor g.G.Guard.raises X (Commit c.args.worker) c.commit.result T) c.self.view_is work
 
 pub returns-then-place-len-clause-acts : goal.returns-then-place-len-clause-acts
 returns-then-place-len-clause-acts g c =
-    let past : length c.self.inside.seats.items ≤ c.args.worker = omega arith in
-    let none = subst (λ (X : SystemView g.row.G.Denot). length X.seats ≤ c.args.worker) c.self.view_is past in
+    let past : length c.self.inside.workers.items ≤ c.args.worker = omega arith in
+    let none = subst (λ (X : SystemView g.row.G.Denot). length X.workers ≤ c.args.worker) c.self.view_is past in
     no_worker (OfClaim CommitsClaim) c.args.self.now c.args.self.now c.args.worker (Err BadArguments) none refl refl
 
 pub returns-then-place-len-clause-others : goal.returns-then-place-len-clause-others
-returns-then-place-len-clause-others g c = leaves_all (Commit c.args.worker) c.args.self.now.seats c.args.self.now.seats refl
+returns-then-place-len-clause-others g c = leaves_all (Commit c.args.worker) c.args.self.now.workers c.args.self.now.workers refl
 
 pub returns-then-place-len-clause-work : goal.returns-then-place-len-clause-work
 returns-then-place-len-clause-work g c =
-    let past : length c.self.inside.seats.items ≤ c.args.worker = omega arith in
-    let none = subst (λ (X : SystemView g.row.G.Denot). length X.seats ≤ c.args.worker) c.self.view_is past in
-    no_seat (λ i s answer j t. CommitsSeat i s s.claim answer j t) c.args.self.now c.args.self.now c.args.worker (Err BadArguments) none refl
+    let past : length c.self.inside.workers.items ≤ c.args.worker = omega arith in
+    let none = subst (λ (X : SystemView g.row.G.Denot). length X.workers ≤ c.args.worker) c.self.view_is past in
+    no_system_worker (λ i s answer j t. WorkerCommits i s s.claim answer j t) c.args.self.now c.args.self.now c.args.worker (Err BadArguments) none refl
 
 pub commit-requires : goal.commit-requires
 commit-requires g c =
     let i = c.self.inside in
-    let there : slice_get i.seats.items c.args.worker ≡ Some c.index_mut-seat.result.now = slice_get_read i.seats.items (length i.seats.items) c.args.worker c.index_mut-seat.result.now refl (omega arith) c.index_mut-seat.ensures.value in
-    at_all (FitsSeat i.image) i.seats.items c.args.worker c.index_mut-seat.result.now c.self.invariant there
+    let there : slice_get i.workers.items c.args.worker ≡ Some c.index_mut-system_worker.result.now = slice_get_read i.workers.items (length i.workers.items) c.args.worker c.index_mut-system_worker.result.now refl (omega arith) c.index_mut-system_worker.ensures.value in
+    at_all (FitsWorker i.image) i.workers.items c.args.worker c.index_mut-system_worker.result.now c.self.invariant there

@@ -1,6 +1,6 @@
 use Rattle.std.proofs.Common.{subst}
 use Rattle.st_image.specs.RanTargets.{EachStepRan}
-use Rattle.st_system.specs.Seats.{SystemView}
+use Rattle.st_system.specs.SystemWorkers.{SystemView}
 use Rattle.st_system.proofs.system.System.known.Goals as goal
 
 pub returns-clause-sent : goal.returns-clause-sent

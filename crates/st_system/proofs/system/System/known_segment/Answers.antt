@@ -1,5 +1,5 @@
 use Rattle.std.proofs.Common.{subst}
-use Rattle.st_system.specs.Seats.{SystemView}
+use Rattle.st_system.specs.SystemWorkers.{SystemView}
 use Rattle.st_system.specs.Segments.{IsSegment}
 use Rattle.st_system.proofs.system.System.known_segment.Goals as goal
 

@@ -4,11 +4,11 @@ use Rattle.std.proofs.lemmas.Option.{slice_get_read}
 use Rattle.st_image.proofs.Places.{at_all}
 use Rattle.st_system.specs.ClaimEvents.{AtWorker, OfClaim, StepsClaim}
 use Rattle.st_system.specs.Schedules.{schedule}
-use Rattle.st_system.specs.Seats.{FitsSeat, SystemView}
-use Rattle.st_system.proofs.Seats.{all_set, goes_on_same}
-use Rattle.st_system.specs.WorkerEvents.{StepsSeat, TellsWork}
-use Rattle.st_system.proofs.WorkersActing.{seat_acts, worker_acts, no_seat, no_worker}
-use Rattle.st_system.proofs.OtherSeats.{leaves_others, leaves_all}
+use Rattle.st_system.specs.SystemWorkers.{FitsWorker, SystemView}
+use Rattle.st_system.proofs.SystemWorkers.{all_set, goes_on_same}
+use Rattle.st_system.specs.WorkerEvents.{TellsWork, WorkerTakesStep}
+use Rattle.st_system.proofs.WorkersActing.{system_worker_acts, worker_acts, no_system_worker, no_worker}
+use Rattle.st_system.proofs.OtherWorkers.{leaves_others, leaves_all}
 use Rattle.st_system.specs.declared.events.Event.TheVariants.{Local}
 use Rattle.st_system.specs.Others.{LeavesOthers}
 use Rattle.st_classes.specs.declared.refusals.Refusal.TheVariants.{BadArguments}
@@ -16,45 +16,45 @@ use Rattle.st_system.proofs.system.System.step.Goals as goal
 
 pub invariant_of-self : goal.invariant_of-self
 invariant_of-self g c =
-    let there : slice_get c.self.inside.seats.items c.args.worker ≡ Some c.index_mut-seat.result.now = slice_get_read c.self.inside.seats.items (length c.self.inside.seats.items) c.args.worker c.index_mut-seat.result.now refl (search rules) c.index_mut-seat.ensures.value in
+    let there : slice_get c.self.inside.workers.items c.args.worker ≡ Some c.index_mut-system_worker.result.now = slice_get_read c.self.inside.workers.items (length c.self.inside.workers.items) c.args.worker c.index_mut-system_worker.result.now refl (search rules) c.index_mut-system_worker.ensures.value in
     let i = c.self.inside.image in
-    all_set i i c.self.inside.seats.items c.args.worker c.step.new.self (goes_on_same i) c.self.invariant (c.step.ensures.fits i (at_all (FitsSeat i) c.self.inside.seats.items c.args.worker c.index_mut-seat.result.now c.self.invariant there))
+    all_set i i c.self.inside.workers.items c.args.worker c.step.new.self (goes_on_same i) c.self.invariant (c.step.ensures.fits i (at_all (FitsWorker i) c.self.inside.workers.items c.args.worker c.index_mut-system_worker.result.now c.self.invariant there))
 
 pub returns-clause-acts : goal.returns-clause-acts
 returns-clause-acts g c =
-    let there : slice_get c.self.inside.seats.items c.args.worker ≡ Some c.index_mut-seat.result.now = slice_get_read c.self.inside.seats.items (length c.self.inside.seats.items) c.args.worker c.index_mut-seat.result.now refl (search rules) c.index_mut-seat.ensures.value in
-    let S : SystemView g.row.G.Denot = record { image = c.self.inside.image; seats = c.self.inside.seats.items } in
-    let T : SystemView g.row.G.Denot = record { image = c.self.inside.image; seats = slice_set c.self.inside.seats.items c.args.worker c.step.new.self } in
-    let acts = worker_acts (OfClaim StepsClaim) S T c.args.worker c.index_mut-seat.result.now c.step.new.self c.step.result there refl (c.step.ensures.acts c.self.inside.image) in
+    let there : slice_get c.self.inside.workers.items c.args.worker ≡ Some c.index_mut-system_worker.result.now = slice_get_read c.self.inside.workers.items (length c.self.inside.workers.items) c.args.worker c.index_mut-system_worker.result.now refl (search rules) c.index_mut-system_worker.ensures.value in
+    let S : SystemView g.row.G.Denot = record { image = c.self.inside.image; workers = c.self.inside.workers.items } in
+    let T : SystemView g.row.G.Denot = record { image = c.self.inside.image; workers = slice_set c.self.inside.workers.items c.args.worker c.step.new.self } in
+    let acts = worker_acts (OfClaim StepsClaim) S T c.args.worker c.index_mut-system_worker.result.now c.step.new.self c.step.result there refl (c.step.ensures.acts c.self.inside.image) in
     subst (λ (X : SystemView g.row.G.Denot). AtWorker (OfClaim StepsClaim) (schedule X) c.args.worker c.step.result (schedule T) (slice_get (schedule X).claims c.args.worker)) c.self.view_is acts
 
 pub returns-clause-others : goal.returns-clause-others
 returns-clause-others g c =
-    let seats = c.self.inside.seats.items in
-    let there : slice_get seats c.args.worker ≡ Some c.index_mut-seat.result.now = slice_get_read seats (length seats) c.args.worker c.index_mut-seat.result.now refl (search rules) c.index_mut-seat.ensures.value in
-    let others = leaves_others (Local c.args.worker) c.args.worker seats c.index_mut-seat.result.now c.step.new.self refl there (λ apart. cc) in
-    subst (λ (X : SystemView g.row.G.Denot). LeavesOthers (Local c.args.worker) X.seats (slice_set seats c.args.worker c.step.new.self)) c.self.view_is others
+    let workers = c.self.inside.workers.items in
+    let there : slice_get workers c.args.worker ≡ Some c.index_mut-system_worker.result.now = slice_get_read workers (length workers) c.args.worker c.index_mut-system_worker.result.now refl (search rules) c.index_mut-system_worker.ensures.value in
+    let others = leaves_others (Local c.args.worker) c.args.worker workers c.index_mut-system_worker.result.now c.step.new.self refl there (λ apart. cc) in
+    subst (λ (X : SystemView g.row.G.Denot). LeavesOthers (Local c.args.worker) X.workers (slice_set workers c.args.worker c.step.new.self)) c.self.view_is others
 
 pub returns-clause-work : goal.returns-clause-work
 returns-clause-work g c =
-    let seats = c.self.inside.seats.items in
-    let there : slice_get seats c.args.worker ≡ Some c.index_mut-seat.result.now = slice_get_read seats (length seats) c.args.worker c.index_mut-seat.result.now refl (search rules) c.index_mut-seat.ensures.value in
-    let S : SystemView g.row.G.Denot = record { image = c.self.inside.image; seats = seats } in
-    let T : SystemView g.row.G.Denot = record { image = c.self.inside.image; seats = slice_set seats c.args.worker c.step.new.self } in
-    let work = seat_acts (λ i s answer j t. StepsSeat g.G.Guard.count g.G.Guard.floor g.G.Guard.raises s s.claim answer t) S T c.args.worker c.index_mut-seat.result.now c.step.new.self c.step.result there refl c.step.ensures.whole in
+    let workers = c.self.inside.workers.items in
+    let there : slice_get workers c.args.worker ≡ Some c.index_mut-system_worker.result.now = slice_get_read workers (length workers) c.args.worker c.index_mut-system_worker.result.now refl (search rules) c.index_mut-system_worker.ensures.value in
+    let S : SystemView g.row.G.Denot = record { image = c.self.inside.image; workers = workers } in
+    let T : SystemView g.row.G.Denot = record { image = c.self.inside.image; workers = slice_set workers c.args.worker c.step.new.self } in
+    let work = system_worker_acts (λ i s answer j t. WorkerTakesStep g.G.Guard.count g.G.Guard.floor g.G.Guard.raises s s.claim answer t) S T c.args.worker c.index_mut-system_worker.result.now c.step.new.self c.step.result there refl c.step.ensures.whole in
     subst (λ (X : SystemView g.row.G.Denot). TellsWork g.G.Guard.count g.G.Guard.floor g.G.Guard.raises X (Local c.args.worker) c.step.result T) c.self.view_is work
 
 pub returns-then-place-len-clause-acts : goal.returns-then-place-len-clause-acts
 returns-then-place-len-clause-acts g c =
-    let past : length c.self.inside.seats.items ≤ c.args.worker = omega arith in
-    let none = subst (λ (X : SystemView g.row.G.Denot). length X.seats ≤ c.args.worker) c.self.view_is past in
+    let past : length c.self.inside.workers.items ≤ c.args.worker = omega arith in
+    let none = subst (λ (X : SystemView g.row.G.Denot). length X.workers ≤ c.args.worker) c.self.view_is past in
     no_worker (OfClaim StepsClaim) c.args.self.now c.args.self.now c.args.worker (Err BadArguments) none refl refl
 
 pub returns-then-place-len-clause-others : goal.returns-then-place-len-clause-others
-returns-then-place-len-clause-others g c = leaves_all (Local c.args.worker) c.args.self.now.seats c.args.self.now.seats refl
+returns-then-place-len-clause-others g c = leaves_all (Local c.args.worker) c.args.self.now.workers c.args.self.now.workers refl
 
 pub returns-then-place-len-clause-work : goal.returns-then-place-len-clause-work
 returns-then-place-len-clause-work g c =
-    let past : length c.self.inside.seats.items ≤ c.args.worker = omega arith in
-    let none = subst (λ (X : SystemView g.row.G.Denot). length X.seats ≤ c.args.worker) c.self.view_is past in
-    no_seat (λ i s answer j t. StepsSeat g.G.Guard.count g.G.Guard.floor g.G.Guard.raises s s.claim answer t) c.args.self.now c.args.self.now c.args.worker (Err BadArguments) none refl
+    let past : length c.self.inside.workers.items ≤ c.args.worker = omega arith in
+    let none = subst (λ (X : SystemView g.row.G.Denot). length X.workers ≤ c.args.worker) c.self.view_is past in
+    no_system_worker (λ i s answer j t. WorkerTakesStep g.G.Guard.count g.G.Guard.floor g.G.Guard.raises s s.claim answer t) c.args.self.now c.args.self.now c.args.worker (Err BadArguments) none refl

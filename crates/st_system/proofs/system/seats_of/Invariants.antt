@@ -1,9 +1,0 @@
-use Rattle.std.proofs.Common.{◌≡◌, List}
-use Rattle.std.specs.List.{AllZip}
-use Rattle.st_guard.specs.Moves.{CachesView}
-use Rattle.st_system.specs.Seats.{TakesSeat}
-use Rattle.st_system.proofs.system.seats_of.Given as goal
-
-abbrev pub invariant-loop-worker : goal.invariant-loop-worker
-invariant-loop-worker g l =
-    (workers : List (CachesView g.row.G.Denot)) → l.yielded ≡ workers → AllZip (TakesSeat l.version) workers l.seats.items

@@ -1,6 +1,6 @@
 //! The file in which a run keeps its image.
 ghost use Rattle.std.specs.Prelude.{IfOk, Ok};
-ghost use Rattle.st_server.specs.Keepers.{IsFault, Keeps};
+ghost use Rattle.st_script.specs.Keepers.{IsFault, Keeps};
 
 use crate::noting::Noted;
 use st_classes::refusals::Refusal;
@@ -9,8 +9,8 @@ use st_disk::journals::Journal;
 use st_disk::new_files::{NewFile, hold, hold_beside};
 use st_disk::stamps::Stamp;
 use st_file::moments::Moment;
-use st_server::images::Image;
-use st_server::keepers::{JournalSettings, JournalWriter, Keeper};
+use st_script::images::Image;
+use st_script::keepers::{JournalSettings, JournalWriter, Keeper};
 use st_wire::names::refusal_name;
 use std::alloc::Global;
 use std::fs::{File, Files};

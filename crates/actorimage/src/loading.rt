@@ -9,9 +9,9 @@ use st_disk::journal_files::is_there;
 use st_disk::journals::{Found, Journal, journal_of, journal_of_another_image, refuse_journal};
 use st_disk::new_files::NewFile;
 use st_journal::redo_error::{LineError, RedoError, RefusedLine};
-use st_server::images::Image;
-use st_server::keepers::JournalSettings;
-use st_server::recovering::recover;
+use st_script::images::Image;
+use st_script::keepers::JournalSettings;
+use st_script::recovering::recover;
 use std::alloc::Global;
 use std::fs::{File, Files};
 

@@ -1,9 +1,9 @@
 //! What a script has led to, until it is in its journal.
 use crate::keeping::FileKeeper;
 use st_classes::refusals::Refusal;
-use st_server::images::Image;
-use st_server::journal_batch::JournalBatch;
-use st_server::keepers::JournalWriter;
+use st_script::images::Image;
+use st_script::journal_batch::JournalBatch;
+use st_script::keepers::JournalWriter;
 use std::alloc::Global;
 use std::io::{self, ErrorKind, Write};
 

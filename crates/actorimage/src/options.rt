@@ -5,8 +5,8 @@ use clap::error::ErrorKind;
 use clap::{Arg, ArgAction, ArgMatches, Command, Error, value_parser};
 use st_disk::image_files::Place;
 use st_journal::redoing::replaying::Until;
-use st_server::keepers::JournalSettings;
-use st_server::settings::ScriptSettings;
+use st_script::keepers::JournalSettings;
+use st_script::settings::ScriptSettings;
 use std::alloc::{AllocError, Global};
 
 /// What `--version` prints behind the program's name.

@@ -5,7 +5,7 @@ ghost use Rattle.actorimage.specs.Runs.{BeginsWith};
 
 use st_classes::refusals::Refusal;
 use st_image::settings::Settings;
-use st_server::images::Image;
+use st_script::images::Image;
 use std::alloc::Global;
 
 /// The image with which a run begins: the one that was found in a file, or else a new one. If the file was refused, the run does

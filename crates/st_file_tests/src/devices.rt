@@ -2,7 +2,7 @@
 use st_classes::refusals::Refusal;
 use st_file::files::{image_of_bytes, load};
 use st_file::saving::save;
-use st_server::images::{Image, Mailbox};
+use st_script::images::{Image, Mailbox};
 use st_wire::streams::{Reader, Writer};
 use std::alloc::Global;
 use std::io::{self, ErrorKind, Read, Write};

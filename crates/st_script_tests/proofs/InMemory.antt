@@ -8,9 +8,9 @@ use Rattle.st_guard.specs.Moves.{CachesView}
 use Rattle.st_session.specs.Sessions.{Replies}
 use Rattle.st_session.specs.DeviceSessions.{ByteSession}
 use Rattle.st_session.proofs.KnownBytes.{byte_session}
-use Rattle.st_server.specs.CommandReplies.{Serves}
-use Rattle.st_server.specs.Runners.{AreNew, GuardView, RunnerView}
-use Rattle.st_server.specs.Scripts.{RunsScript}
+use Rattle.st_script.specs.CommandReplies.{Serves}
+use Rattle.st_script.specs.Runners.{AreNew, GuardView, RunnerView}
+use Rattle.st_script.specs.Scripts.{RunsScript}
 
 abbrev Whole : ℕ → ImageView → List ℕ → List ℕ → ImageView → Result ℕ Refusal → Type 0
 Whole quantum i bytes out j r =

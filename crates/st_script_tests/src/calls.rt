@@ -5,7 +5,7 @@ use st_classes::seq::Seq;
 use st_classes::values::{ActorId, ClassId, Selector};
 use st_guard::caches::Caches;
 use st_image::settings::Settings;
-use st_server::images::{Guard, Image, Worker};
+use st_script::images::{Guard, Image, Worker};
 use st_turn::claim::Claim;
 use std::alloc::{AllocError, Global};
 

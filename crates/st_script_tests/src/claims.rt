@@ -4,7 +4,7 @@ use st_classes::kernel::{OBJECT, SMALL_INTEGER};
 use st_classes::refusals::Refusal;
 use st_classes::values::ClassId;
 use st_image::settings::Settings;
-use st_server::images::Image;
+use st_script::images::Image;
 use st_turn::claim::Claim;
 use std::alloc::Global;
 use std::collections::VecDeque;

@@ -3,9 +3,9 @@ ghost use Rattle.std.specs.Prelude.{Some};
 
 use st_classes::refusals::Refusal;
 use st_image::settings::Settings;
-use st_server::images::Image;
-use st_server::scripts::script_on;
-use st_server::settings::ScriptSettings;
+use st_script::images::Image;
+use st_script::scripts::script_on;
+use st_script::settings::ScriptSettings;
 use st_wire::streams::{Input, MemoryInput, MemoryOutput, Output, Reader, WriteFailed, Writer};
 use std::alloc::{AllocError, Global};
 use std::io::{self, ErrorKind, Read, Write};

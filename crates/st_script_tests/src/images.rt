@@ -4,8 +4,8 @@ use st_classes::kernel::OBJECT;
 use st_classes::refusals::Refusal;
 use st_classes::values::{ClassId, Selector};
 use st_image::settings::Settings;
-use st_server::images::Image;
-use st_server::settings::ScriptSettings;
+use st_script::images::Image;
+use st_script::settings::ScriptSettings;
 use std::test::*;
 
 #[test]

@@ -1,6 +1,6 @@
 //! Worked scripts with other histories than the program's, and the replies that they must have.
 use crate::sessions_in_memory::says;
-use st_server::settings::ScriptSettings;
+use st_script::settings::ScriptSettings;
 use std::alloc::{AllocError, Global};
 use std::test::*;
 

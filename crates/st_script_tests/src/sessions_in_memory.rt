@@ -5,16 +5,16 @@ ghost use Rattle.st_classes.specs.declared.refusals.Refusal.TheVariants.{NoMemor
 ghost use Rattle.st_guard.specs.Moves.{CachesView};
 ghost use Rattle.st_session.specs.Sessions.{Replies};
 ghost use Rattle.st_session.specs.DeviceSessions.{ByteSession};
-ghost use Rattle.st_server.specs.CommandReplies.{Serves};
-ghost use Rattle.st_server.specs.Runners.{AreNew, GuardView, RunnerView};
-ghost use Rattle.st_server.specs.Scripts.{script_rules, with_settings};
+ghost use Rattle.st_script.specs.CommandReplies.{Serves};
+ghost use Rattle.st_script.specs.Runners.{AreNew, GuardView, RunnerView};
+ghost use Rattle.st_script.specs.Scripts.{script_rules, with_settings};
 
 use crate::devices::{end_of, says_in_pieces};
 use st_classes::refusals::Refusal;
 use st_image::settings::Settings;
-use st_server::images::Image;
-use st_server::scripts::script_on;
-use st_server::settings::ScriptSettings;
+use st_script::images::Image;
+use st_script::scripts::script_on;
+use st_script::settings::ScriptSettings;
 use st_wire::streams::{MemoryInput, MemoryOutput};
 use std::alloc::Global;
 use std::test::*;

@@ -15,7 +15,7 @@ use st_classes::seq::Seq;
 use st_classes::values::{ClassId, Selector, Value};
 use st_classes::version::Version;
 use st_image::settings::Settings;
-use st_server::images::Image;
+use st_script::images::Image;
 use st_turn::body::{Body, Outcome, Phase, Stop};
 use st_turn::plain::step_plain;
 use std::alloc::{AllocError, Global};

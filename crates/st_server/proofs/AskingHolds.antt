@@ -27,13 +27,13 @@ use Rattle.st_wire.specs.declared.commands.Command.{Command}
 use Rattle.st_wire.specs.declared.commands.Command.TheVariants as command
 use Rattle.st_wire.specs.declared.replies.Reply.{Reply}
 use Rattle.st_wire.specs.declared.replies.Reply.TheVariants as reply
-use Rattle.st_server.specs.ArgumentValues.{with_first}
-use Rattle.st_server.specs.CallOf.{Makes, RepliesTo, call_of, class_in}
+use Rattle.st_script.specs.ArgumentValues.{with_first}
+use Rattle.st_script.specs.CallOf.{Makes, RepliesTo, call_of, class_in}
 use Rattle.st_queries.specs.Replying.{TellsOf, TellsSeen}
-use Rattle.st_server.specs.CommandReplies.{Asks}
+use Rattle.st_script.specs.CommandReplies.{Asks}
 use Rattle.st_server.specs.PoolReplies.{AsksInHold, SeesInHold}
-use Rattle.st_server.specs.Replacing.{ReplacesIn, version_for}
-use Rattle.st_server.specs.Posting.{AllResolve, Nothing, PostsArguments, PostsNamed, Resolves}
+use Rattle.st_script.specs.Replacing.{ReplacesIn, version_for}
+use Rattle.st_script.specs.Posting.{AllResolve, Nothing, PostsArguments, PostsNamed, Resolves}
 
 abbrev image_in : PoolView → ImageView
 image_in o = o.image

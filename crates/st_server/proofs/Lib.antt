@@ -1,11 +1,3 @@
-pub mod Names
-pub mod Reports
-pub mod Keeping
-pub mod Claims
-pub mod SomeSteps
-pub mod Quanta
-pub mod Taken
-pub mod Arguments
-pub mod Scripting
 pub mod Amounts
 pub mod AskingHolds
+pub mod Attending

@@ -1,13 +1,2 @@
-pub mod ArgumentValues
-pub mod Checks
-pub mod SiteReports
-pub mod Runners
-pub mod CallOf
-pub mod Posting
-pub mod Replacing
-pub mod Keepers
-pub mod CommandReplies
 pub mod PoolReplies
-pub mod Totals
-pub mod Scripts
 pub mod Serving

@@ -14,8 +14,8 @@ use Rattle.st_wire.specs.declared.queries.Query.{Query}
 use Rattle.st_wire.specs.declared.replies.Reply.{Reply}
 use Rattle.st_wire.specs.declared.commands.Command.TheVariants as command
 use Rattle.st_file.specs.Moments.{MomentView, moment_of}
-use Rattle.st_server.specs.CommandReplies.{Asks}
-use Rattle.st_server.specs.Keepers.{IsFault, SavesMoment}
+use Rattle.st_script.specs.CommandReplies.{Asks}
+use Rattle.st_script.specs.Keepers.{IsFault, SavesMoment}
 
 -- the reply is that of the command, in one hold, in which calls are made alone; the calls of the command are made of what lies under the lock
 pub record AsksInHold (o : PoolView) (d : Done) (c : Command) (r : Reply) (p : PoolView) (e : Done) : Type 0 where

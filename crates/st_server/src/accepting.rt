@@ -4,8 +4,6 @@ ghost use Rattle.std.specs.declared.io.ErrorKind.TheVariants.{ConnectionAborted,
 
 use crate::attending::{Desk, attend};
 use crate::awaiting::Awaiting;
-use crate::images::Mailbox;
-use crate::keepers::Keeper;
 use crate::polling::Polled;
 use crate::porters::{Porter, Witness};
 use crate::recording::Recorder;
@@ -17,6 +15,8 @@ use st_pool::callers::Caller;
 use st_pool::naming::Naming;
 use st_pool::shared::Shared;
 use st_pool::shares::CallerShare;
+use st_script::images::Mailbox;
+use st_script::keepers::Keeper;
 use st_wire::streams::{Reader, Writer};
 use std::alloc::Global;
 use std::io::{BufWriter, ErrorKind, Read, Write};

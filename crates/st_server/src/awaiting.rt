@@ -1,7 +1,7 @@
 //! A session's output, which waits until the replies are true whatever happens.
-use crate::keepers::Keeper;
 use crate::recording::Recorder;
 use st_pool::naming::Naming;
+use st_script::keepers::Keeper;
 use std::alloc::Global;
 use std::io::{self, ErrorKind, Write};
 use std::sync::Wait;

@@ -1,8 +1,8 @@
 //! How far a journal is, and what is told next.
-use crate::journal_batch::{JournalBatch, MOST_TOLD};
-use crate::keepers::JournalSettings;
 use crate::readings::{Behind, Read};
 use st_classes::refusals::Refusal;
+use st_script::journal_batch::{JournalBatch, MOST_TOLD};
+use st_script::keepers::JournalSettings;
 use std::alloc::Global;
 
 /// How many bytes and how many steps a unit of [`JournalSettings::save_after`] stands for.

@@ -1,10 +1,8 @@
 //! What has happened to a served image, read in short holds of its lock.
 ghost use Rattle.std.specs.Prelude.{◌≡◌, IfErr, IfOk};
 ghost use Rattle.st_file.specs.Moments.{moment_of};
-ghost use Rattle.st_server.specs.Keepers.{IsFault};
+ghost use Rattle.st_script.specs.Keepers.{IsFault};
 
-use crate::images::Mailbox;
-use crate::keepers::copied;
 use st_classes::names::Names;
 use st_classes::refusals::Refusal;
 use st_classes::token::Token;
@@ -14,6 +12,8 @@ use st_journal::copying::copied_items;
 use st_pool::holds::Reading;
 use st_pool::naming::Naming;
 use st_pool::pool_state::PoolState;
+use st_script::images::Mailbox;
+use st_script::keepers::copied;
 use std::alloc::{AllocError, Global};
 
 /// What was read in a hold: items, and the names and the class table by which they can be told.

@@ -2,10 +2,8 @@
 //!
 //! What has happened is read in short holds of the image's lock, and told and written outside of it: so nobody waits for the disk but
 //! sessions whose replies are to be true after a crash. One thread at a time goes on with the journal.
-ghost use Rattle.st_server.specs.Keepers.{IsFault, StaysOrFails};
+ghost use Rattle.st_script.specs.Keepers.{IsFault, StaysOrFails};
 
-use crate::images::Mailbox;
-use crate::keepers::{JournalSettings, Keeper};
 use crate::progress::Progress;
 use crate::readings::{Behind, Copied, CopyingBehind, Read};
 use crate::turns::Turns;
@@ -13,6 +11,8 @@ use st_classes::refusals::Refusal;
 use st_file::moments::Moment;
 use st_pool::naming::Naming;
 use st_pool::shared::Shared;
+use st_script::images::Mailbox;
+use st_script::keepers::{JournalSettings, Keeper};
 use std::alloc::{AllocError, Global};
 use std::sync::atomic::{AtomicU64, Ordering};
 use std::sync::{Condvar, CondvarTimeouts, Mutex, MutexGuard, Wait};

@@ -1,11 +1,11 @@
 //! What a session waits for.
-use crate::images::Mailbox;
 use st_classes::refusals::Refusal;
 use st_classes::values::ActorId;
 use st_pool::holds::Condition;
 use st_pool::naming::Naming;
 use st_pool::pool_state::PoolState;
 use st_queries::hosts::{Host, epoch};
+use st_script::images::Mailbox;
 use st_wire::commands::Command;
 use std::alloc::Global;
 use std::time::Duration;

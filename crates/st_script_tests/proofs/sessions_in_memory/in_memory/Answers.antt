@@ -1,7 +1,7 @@
 use Rattle.std.proofs.Common.{◌≡◌, List, ℕ, ◌++◌, Some, drop, refl, ap, ◌∙◌}
 use Rattle.st_classes.specs.Refusals.{first_of}
 use Rattle.st_wire.specs.Streams.{InputView}
-use Rattle.st_server.specs.Scripts.{script_rules, with_settings}
+use Rattle.st_script.specs.Scripts.{script_rules, with_settings}
 use Rattle.st_script_tests.proofs.InMemory.{answers_whole, refuses_unread}
 use Rattle.st_script_tests.proofs.sessions_in_memory.in_memory.Goals as goal
 

@@ -2,7 +2,7 @@ use Rattle.std.proofs.Common.{subst}
 use Rattle.st_pool.specs.Done.{Done, Finds, PoolView}
 use Rattle.st_wire.specs.declared.commands.Command.TheVariants as command
 use Rattle.st_server.specs.PoolReplies.{ServesInHold}
-use Rattle.st_server.proofs.Keeping.{copied_saves}
+use Rattle.st_script.proofs.Keeping.{copied_saves}
 use Rattle.st_server.proofs.attending.PoolHandler.save.Goals as goal
 
 pub returns : goal.returns

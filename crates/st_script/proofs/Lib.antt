@@ -1,0 +1,9 @@
+pub mod Names
+pub mod Reports
+pub mod Keeping
+pub mod Claims
+pub mod SomeSteps
+pub mod Quanta
+pub mod Taken
+pub mod Arguments
+pub mod Scripting

@@ -1,0 +1,11 @@
+pub mod ArgumentValues
+pub mod Checks
+pub mod SiteReports
+pub mod Runners
+pub mod CallOf
+pub mod Posting
+pub mod Replacing
+pub mod Keepers
+pub mod CommandReplies
+pub mod Totals
+pub mod Scripts

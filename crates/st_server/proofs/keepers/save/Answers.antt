@@ -1,5 +1,0 @@
-use Rattle.st_server.proofs.Keeping.{copied_saves}
-use Rattle.st_server.proofs.keepers.save.Goals as goal
-
-pub returns : goal.returns
-returns g c = copied_saves c.args.image.now c.copied-moment.result c.written-reply.result c.replaced-reply.result c.copied-moment.ensures.moment c.copied-moment.ensures.fault c.written-reply.ensures c.replaced-reply.ensures

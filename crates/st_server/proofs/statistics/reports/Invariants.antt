@@ -1,6 +1,0 @@
-use Rattle.std.proofs.Common.{◌≡◌, map, take}
-use Rattle.st_server.specs.SiteReports.{site_report}
-use Rattle.st_server.proofs.statistics.reports.Given as goal
-
-abbrev pub invariant-sites : goal.invariant-sites
-invariant-sites l = l.told.items ≡ map (site_report l.image.names) (take l.stats-index l.list)

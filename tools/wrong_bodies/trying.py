@@ -7,7 +7,7 @@ import subprocess
 import tempfile
 
 from common.repository import TOP
-from wrong_bodies.edits import apply, by_of, crates_of, path_of, test_of, trial_of
+from wrong_bodies.edits import apply, by_of, crates_of, path_of, test_of, trial_of, why_not
 from wrong_bodies.program import build
 
 # What a check says where a stored proof no longer fits the code: that shows nothing about the clauses.
@@ -67,15 +67,74 @@ def verdict_of(ended):
     told = [line for line in lines if re.match(r"(note: )?(\./)?\w+/\S+:\d+:\d+: ", line) or re.match(r"fn \S+: (not proved|no proof)", line)]
     if ended.returncode == 0:
         return False, "NOT REFUSED", told
-    if not any(line.startswith("logic=not-proved") for line in lines):
+    if not any(line.startswith(("logic=not-proved", "only=")) for line in lines):
         return False, "BAD EDIT: it did not reach the prover", lines
     functions = re.findall(r"^fn \w+::(\S+): not proved$", ended.stdout, re.M)
     goals = goals_of(told)
     if not goals:
         return False, "NOT REFUSED BY A CLAUSE: a stored proof names what it took away, or the prover does not cover it", told
+    return True, said_of(functions[0] if functions else "", goals), told
+
+
+def said_of(function, goals):
+    """What refused an edit, as a page says it."""
     more = f" and {len(goals) - MOST} more" if len(goals) > MOST else ""
     names = ", ".join(f"`{goal}`" for goal in goals[:MOST])
-    return True, f"`{functions[0]}`: {names}{more}" if functions else f"{names}{more}", told
+    return f"`{function}`: {names}{more}" if function else f"{names}{more}"
+
+
+def together(edits, crate):
+    """Tries edits of different functions in one check of the crate in a folder, as far as they can be applied together. The answer is
+    those that were; by the name of each function that failed by itself, what was said of it; and the names of those that were not looked
+    at, since they call one that failed."""
+    tried, backs = [], []
+    for edit in edits:
+        if not why_not(edit, crate):
+            tried.append(edit)
+            backs.append(apply(edit, crate))
+    try:
+        ended = run(["rt", "check", "--jobs", "1"], crate)
+    finally:
+        for back in reversed(backs):
+            back()
+    failed, passed_over, told = {}, set(), []
+    for line in ended.stdout.split("\n"):
+        found = re.match(r"fn \w+::(\S+): (not proved|no proof: it calls|no proof)", line)
+        if found and found[2] == "no proof: it calls":
+            passed_over.add(found[1])
+        elif found:
+            failed[found[1]] = [*told, line]
+        elif re.match(r"(note: )?(\./)?\w+/\S+:\d+:\d+: ", line):
+            told.append(line)
+        if re.match(r"fn \S+: ", line):
+            told = []
+    if not failed and len(tried) > 1:
+        # One that does not compile keeps all others from the prover.
+        halves = [together(half, crate) for half in (tried[: len(tried) // 2], tried[len(tried) // 2 :])]
+        return tried, {**halves[0][1], **halves[1][1]}, halves[0][2] | halves[1][2]
+    return tried, failed, passed_over
+
+
+def by_clauses(edits, crate):
+    """For each edit that names no test and no trial whether a clause refuses it, what refuses it, and what was said. Edits of different
+    functions are tried in one check, and what that leaves open one by one."""
+    left, alone = [edit for edit in edits if path_of(edit, crate)], [edit for edit in edits if not path_of(edit, crate)]
+    while left:
+        batch = {path_of(edit, crate): edit for edit in reversed(left)}
+        tried, failed, passed_over = together(list(batch.values()), crate)
+        for edit in tried:
+            path = path_of(edit, crate)
+            told = next((lines for name, lines in failed.items() if f"::{name}".endswith(f"::{path}")), [])
+            goals = goals_of(told)
+            if goals:
+                yield edit, True, said_of(path, goals), told
+            elif len(tried) == 1 or not any(f"::{name}".endswith(f"::{path}") for name in passed_over):
+                alone.append(edit)
+            else:
+                continue
+            left.remove(edit)
+    for edit in alone:
+        yield edit, *by_the_prover(edit, crate)
 
 
 def by_a_test(edit, top, crate):
@@ -142,12 +201,11 @@ def try_edits(crate, edits, unedited):
     """Tries edits of one crate in a copy, and gives for each whether it is refused, by what, and what was said."""
     by_trials = [edit for edit in edits if trial_of(edit)]
     by_tests = [edit for edit in edits if test_of(edit)]
-    by_clauses = [edit for edit in edits if not by_of(edit)]
+    others = [edit for edit in edits if not by_of(edit)]
     with tempfile.TemporaryDirectory(prefix="wrong-bodies-") as room:
-        if by_clauses:
+        if others:
             copy_of(f"{room}/proved", crate)
-            for edit in by_clauses:
-                yield edit, *by_the_prover(edit, f"{room}/proved/crates/{crate}")
+            yield from by_clauses(others, f"{room}/proved/crates/{crate}")
         if by_tests or by_trials:
             copy_of(f"{room}/run")
         for edit in by_tests:

@@ -1,3 +1,3 @@
 pub mod Amounts
 pub mod AskingHolds
-pub mod Attending
+pub mod Holding

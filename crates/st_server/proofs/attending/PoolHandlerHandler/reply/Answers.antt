@@ -1,5 +1,5 @@
 use Rattle.std.proofs.Common.{refl}
-use Rattle.st_server.proofs.Attending.{asks_attends}
+use Rattle.st_server.proofs.Holding.{asks_attends}
 use Rattle.st_server.proofs.attending.PoolHandlerHandler.reply.Goals as goal
 
 pub returns-in_default : goal.returns-in_default

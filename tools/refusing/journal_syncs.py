@@ -66,6 +66,22 @@ def of_replies(program, disk):
     same("actors", actors(path), 4)
 
 
+def of_a_second_wait(program, disk):
+    """Where the wait for the whole batch went well and the one for its first byte did not, the batch is cut off and told again, and only then
+    a reply may come."""
+    path = program.at("file")
+    with journaled(program, path, "--sync", "0", sessions=9, env=disk.env) as (server, end, lines):
+        done(end, lines, CLASS, ACTOR)
+        disk.refuse()
+        end.sendall(json.dumps(ACTOR).encode() + b"\n")
+        same("a true reply or none", lines.readline() in (b"", b'{"ok":{"actor":1}}\n'), True)
+        with connected(server, program.at("socket")) as other, other.makefile("rb") as replies:
+            same("the next actor", ask(other, replies, ACTOR), {"ok": {"actor": 2}})
+            server.send_signal(signal.SIGKILL)
+            server.wait()
+    same("actors", actors(path), 3)
+
+
 def of_a_pause(program, disk):
     """With a pause sessions go on meanwhile. It is said once, and all is told once the disk is well again."""
     path = program.at("file")
@@ -110,15 +126,16 @@ def of_a_save(program, disk):
         same("the next actor", ask(end, lines, ACTOR), {"ok": {"actor": 4}})
 
 
-OF_FILES, OF_FOLDERS = (of_a_script, of_replies, of_a_pause), (of_a_save,)
+# What the disk refuses in each trial.
+TRIALS = {of_a_script: "REFUSE_SYNC", of_replies: "REFUSE_SYNC", of_a_second_wait: "REFUSE_SECOND", of_a_pause: "REFUSE_SYNC", of_a_save: "REFUSE_FOLDERS"}
 
 
 def check(program):
     """Whether all was well, which is printed."""
     with tempfile.TemporaryDirectory() as room:
         shim = made_in(room, SOURCE)
-        for trial in OF_FILES + OF_FOLDERS:
-            disk = Disk(shim, room, "REFUSE_FOLDERS" if trial in OF_FOLDERS else "REFUSE_SYNC")
+        for trial, what in TRIALS.items():
+            disk = Disk(shim, room, what)
             with tempfile.TemporaryDirectory() as folder:
                 try:
                     trial(Program(program, folder), disk)
@@ -127,5 +144,5 @@ def check(program):
                     return False
             if os.path.exists(disk.sign):
                 disk.be_well()
-    print("tools/refusing-disk: journal: a script and three servers went on from what was told, once the disk was well again")
+    print("tools/refusing-disk: journal: a script and four servers went on from what was told, once the disk was well again")
     return True

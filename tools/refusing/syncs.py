@@ -12,7 +12,8 @@ from inspect_trials.try_common import read
 
 from .shim import made_in
 
-# A library in which `fsync` and `fdatasync` fail while the file is there that a variable names: of all, or of folders.
+# A library in which `fsync` and `fdatasync` fail while the file is there that a variable names: of all, of folders, or the second
+# `fdatasync` alone.
 SOURCE = r"""
 #define _GNU_SOURCE
 #include <dlfcn.h>
@@ -28,20 +29,24 @@ static int is_folder(int file) {
   struct stat it;
   return fstat(file, &it) == 0 && S_ISDIR(it.st_mode);
 }
-static int refuses(int file) {
-  if (!is_there("REFUSE_SYNC") && !(is_there("REFUSE_FOLDERS") && is_folder(file))) return 0;
+static int is_second(void) {
+  static int waits;
+  return is_there("REFUSE_SECOND") && ++waits == 2;
+}
+static int refuses(int file, int is_second) {
+  if (!is_there("REFUSE_SYNC") && !(is_there("REFUSE_FOLDERS") && is_folder(file)) && !is_second) return 0;
   errno = EIO;
   return 1;
 }
 int fsync(int file) {
   static int (*real)(int);
-  if (refuses(file)) return -1;
+  if (refuses(file, 0)) return -1;
   if (!real) real = (int (*)(int))dlsym(RTLD_NEXT, "fsync");
   return real(file);
 }
 int fdatasync(int file) {
   static int (*real)(int);
-  if (refuses(file)) return -1;
+  if (refuses(file, is_second())) return -1;
   if (!real) real = (int (*)(int))dlsym(RTLD_NEXT, "fdatasync");
   return real(file);
 }

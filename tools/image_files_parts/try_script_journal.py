@@ -79,6 +79,24 @@ def script_saves_and_is_killed(program):
     return f"{len(SCRIPTS)} scripts, {kills} kills"
 
 
+def script_saves_in_one_piece(program):
+    """A save among lines that come at once: what was noted before it is in the image, and not in the journal that goes on from that."""
+    for name in SCRIPTS:
+        lines, path = read(os.path.join(EXAMPLES, f"{name}.jsonl")).splitlines(), program.at(name)
+        half = len(lines) // 2
+        with going_on(program, path, *JOURNAL) as (script, asked):
+            asked(b"\n".join([*lines[:half], SAVE, *lines[half:]]))
+            for _ in lines:
+                script.stdout.readline()
+            script.kill()
+            script.wait()
+        text = text_of(program, *lines)
+        kept(f"{name}, a save behind line {half}", path, text)
+        ends(program, name, path)
+        same(f"{name}, a save behind line {half}: what is left", read(path), text)
+    return f"{len(SCRIPTS)} scripts"
+
+
 def long_journal_is_told_of(program):
     """That a journal of a megabyte or more is done again is said on standard error, since it may take seconds; of a shorter one nothing is."""
     empty = file_text({"actors": [], "edits": [], "format": 2, "names": [], "posts": 0, "senders": [], "steps": 0}).encode()
@@ -111,4 +129,4 @@ def refused_script_keeps_its_journal(program):
     return f"{len(ENDINGS)} scripts"
 
 
-TRIALS = (script_is_killed, script_saves_and_is_killed, long_journal_is_told_of, refused_script_keeps_its_journal)
+TRIALS = (script_is_killed, script_saves_and_is_killed, script_saves_in_one_piece, long_journal_is_told_of, refused_script_keeps_its_journal)

@@ -4,6 +4,7 @@ import json
 import os
 import re
 import subprocess
+import tempfile
 
 from common.compact import in_given_order
 from trial_parts.patience import PATIENCE
@@ -27,10 +28,13 @@ def without_epoch(reply):
 
 
 def run(program, lines, failing=None, options=()):
-    """The status, the replies and standard error of a script."""
-    text = "".join(line + "\n" for line in lines).encode()
+    """The status, the replies and standard error of a script. It is read from a file, which gives the same pieces each time: a pipe gives
+    smaller ones where its writer is slow, and then other allocations are made."""
     env = failing.env if failing else None
-    ended = subprocess.run([program, "script", *options], input=text, capture_output=True, env=env, timeout=PATIENCE)
+    with tempfile.TemporaryFile() as file:
+        file.write("".join(line + "\n" for line in lines).encode())
+        file.seek(0)
+        ended = subprocess.run([program, "script", *options], stdin=file, capture_output=True, env=env, timeout=PATIENCE)
     return ended.returncode, [told(it) for it in ended.stdout.decode().splitlines()], ended.stderr.decode()
 
 

@@ -122,17 +122,22 @@ def by_clauses(edits, crate):
     while left:
         batch = {path_of(edit, crate): edit for edit in reversed(left)}
         tried, failed, passed_over = together(list(batch.values()), crate)
+        judged = []
         for edit in tried:
             path = path_of(edit, crate)
             told = next((lines for name, lines in failed.items() if f"::{name}".endswith(f"::{path}")), [])
             goals = goals_of(told)
             if goals:
                 yield edit, True, said_of(path, goals), told
-            elif len(tried) == 1 or not any(f"::{name}".endswith(f"::{path}") for name in passed_over):
+            elif not any(f"::{name}".endswith(f"::{path}") for name in passed_over):
                 alone.append(edit)
             else:
                 continue
-            left.remove(edit)
+            judged.append(edit)
+        if not judged:
+            # What failed has a name that no edit has.
+            alone += tried
+        left = [edit for edit in left if edit not in (judged or tried)]
     for edit in alone:
         yield edit, *by_the_prover(edit, crate)
 

@@ -118,7 +118,7 @@ impl Held {
         let Some(ready) = self.ready.take() else {
             return Err(Failure::from(Refusal::WriteFault));
         };
-        let replaced = self.settle(rt, alloc, ready, journal, from, is_last);
+        let replaced = self.replace_file(rt, alloc, ready, journal, from, is_last);
         if !is_last {
             self.new = self.taken(rt, alloc, path).ok();
         }
@@ -126,7 +126,7 @@ impl Held {
     }
 
     /// The same, without a new file for the next.
-    fn settle<R: Files<File = File>>(
+    fn replace_file<R: Files<File = File>>(
         &mut self,
         rt: &R,
         alloc: Global,
@@ -473,7 +473,7 @@ impl<'a> Keeper for FileKeeper<'a> {
     }
 
     /// Writes to standard error. Where nobody reads that, it waits, and others do not write meanwhile.
-    fn tell(&self) {
+    fn report_error(&self) {
         let news = match self.news.try_lock() {
             Some(mut news) => news.take(),
             None => None,

@@ -3,7 +3,7 @@
 
 ghost use Rattle.std.specs.Prelude.{◌≡◌, [], IfOk};
 
-mod doors;
+mod accept_policy;
 mod keeping;
 mod loading;
 mod noting;
@@ -11,7 +11,7 @@ mod options;
 mod replaying;
 mod runs;
 
-use crate::doors::{Doorkeeper, Reporter};
+use crate::accept_policy::{Reporter, SocketPolicy};
 use crate::keeping::FileKeeper;
 use crate::loading::begin_keeping;
 use crate::noting::NotedOutput;
@@ -35,7 +35,7 @@ use st_script::images::Image;
 use st_script::keepers::Keeper;
 use st_script::quantum::Quantum;
 use st_script::scripts::{run_script, script_with};
-use st_server::porters::FaultList;
+use st_server::accept_policy::FaultList;
 use st_server::sockets::{Served, serve_image};
 use st_server::starts::now;
 use st_wire::names::refusal_name;
@@ -335,14 +335,14 @@ fn serve_bound<R: Threads + Wait + Files + Eprint + Clock + Sync>(
     if options.is_verbose {
         tell_start(rt, options.socket, &image);
     }
-    let keeper = Doorkeeper::new(file);
+    let policy = SocketPolicy::new(file);
     let list = FaultList::of(faults, options.sessions);
     let reporter = Reporter::new(list, options.is_verbose);
     let result = serve_image(
         rt,
         alloc,
         listener,
-        &keeper,
+        &policy,
         &reporter,
         image_keeper,
         options.workers,

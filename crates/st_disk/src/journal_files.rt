@@ -16,26 +16,26 @@ use std::sync::atomic::{AtomicI32, Ordering};
 /// A journal is for its owner alone: it has all that was posted.
 const OWNER_ALONE: u32 = 0o600;
 
-/// Why the system refused a call of a journal's file last. All that [`Fault::again`] gives are this one.
+/// Why the system refused a call of a journal's file last. All that [`LastError::again`] gives are this one.
 #[derive(Drop)]
-pub struct Fault {
+pub struct LastError {
     /// The number of the system's error, or 0.
     code: Arc<AtomicI32>,
 }
 
-impl Fault {
+impl LastError {
     /// Nothing was refused.
-    pub fn new(alloc: Global) -> Result<Fault, Refusal> {
+    pub fn new(alloc: Global) -> Result<LastError, Refusal> {
         match Arc::new(alloc, AtomicI32::new(0)) {
-            Ok(code) => Ok(Fault { code }),
+            Ok(code) => Ok(LastError { code }),
             Err(_) => Err(Refusal::NoMemory),
         }
     }
 
     /// The same one, for another owner. There may be no memory for many owners.
-    pub fn again(&self) -> Result<Fault, Refusal> {
+    pub fn again(&self) -> Result<LastError, Refusal> {
         match self.code.clone() {
-            Ok(code) => Ok(Fault { code }),
+            Ok(code) => Ok(LastError { code }),
             Err(_) => Err(Refusal::NoMemory),
         }
     }
@@ -72,20 +72,21 @@ impl Fault {
 #[derive(Drop)]
 pub struct SystemFile {
     file: File,
-    fault: Fault,
+    last_error: LastError,
 }
 
 impl FileCalls for SystemFile {
     fn write(&mut self, at: usize, bytes: &[u8]) -> bool {
-        self.fault.is_done(self.file.write_all_at(bytes, at as u64))
+        self.last_error
+            .is_done(self.file.write_all_at(bytes, at as u64))
     }
 
     fn cut(&mut self, len: usize) -> bool {
-        self.fault.is_done(self.file.set_len(len as u64))
+        self.last_error.is_done(self.file.set_len(len as u64))
     }
 
     fn sync(&mut self) -> bool {
-        self.fault.is_done(self.file.sync_data())
+        self.last_error.is_done(self.file.sync_data())
     }
 }
 
@@ -177,18 +178,18 @@ fn recovered(
     alloc: Global,
     path: &str,
     file: File,
-    fault: &Fault,
+    last_error: &LastError,
 ) -> Result<(Lines, Vec<u8>), Failure> {
     let bytes = read_whole(alloc, &file, path)?;
     refuse_damage(alloc, path, &bytes)?;
     let file = SystemFile {
         file,
-        fault: fault.again()?,
+        last_error: last_error.again()?,
     };
     let device = FileDevice::new(alloc, file, bytes);
     match Recovered::open(alloc, device) {
         Ok(found) => Ok(found),
-        Err(error) => Err(fault.of(alloc, path, error)),
+        Err(error) => Err(last_error.of(alloc, path, error)),
     }
 }
 
@@ -197,10 +198,10 @@ pub fn open<R: Files<File = File>>(
     rt: &R,
     alloc: Global,
     path: &str,
-    fault: &Fault,
+    last_error: &LastError,
 ) -> Result<(Lines, Vec<u8>), Failure> {
     let file = locked(rt, alloc, path)?;
-    recovered(alloc, path, file, fault)
+    recovered(alloc, path, file, last_error)
 }
 
 /// The same, if the journal begins with a header. One that a save was writing may not be whole, and does not count then.
@@ -209,9 +210,9 @@ pub fn open_whole<R: Files<File = File>>(
     alloc: Global,
     path: &str,
     header: &[u8],
-    fault: &Fault,
+    last_error: &LastError,
 ) -> Result<Option<(Lines, Vec<u8>)>, Failure> {
-    match open(rt, alloc, path, fault) {
+    match open(rt, alloc, path, last_error) {
         Ok((lines, text)) if text.starts_with(header) => Ok(Some((lines, text))),
         Ok((lines, text)) => {
             drop((lines, text));
@@ -230,7 +231,7 @@ pub fn open_again<R: Files<File = File>>(
     alloc: Global,
     path: &str,
     end: usize,
-    fault: &Fault,
+    last_error: &LastError,
 ) -> Result<(Lines, Vec<u8>), Failure> {
     let file = locked(rt, alloc, path)?;
     let end = end as u64;
@@ -242,7 +243,7 @@ pub fn open_again<R: Files<File = File>>(
         return Err(changed_by_another(alloc, path));
     }
     match file.set_len(end) {
-        Ok(()) => recovered(alloc, path, file, fault),
+        Ok(()) => recovered(alloc, path, file, last_error),
         Err(error) => Err(Failure::at(alloc, Refusal::WriteFault, path, &error)),
     }
 }

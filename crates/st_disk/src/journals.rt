@@ -4,7 +4,7 @@
 //! image. So each of both images has its journal, whichever a crash leaves.
 use crate::failures::Failure;
 use crate::journal_files::{
-    Fault, Lines, changed_by_another, is_there, open, open_again, open_to_read, open_whole,
+    LastError, Lines, changed_by_another, is_there, open, open_again, open_to_read, open_whole,
     read_whole, unread, write_whole,
 };
 use crate::new_files::sync_folder;
@@ -52,7 +52,7 @@ pub struct Journal {
     /// The journal, where its last change did not fail.
     lines: Option<Lines>,
     /// Why its last change failed.
-    fault: Fault,
+    last_error: LastError,
     /// How many bytes its lines have.
     end: usize,
     /// Whether another image was moved into the file's place, and it is not known to be on the disk there, with its journal in this one's
@@ -126,16 +126,16 @@ impl Journal {
         let path = journal_of(alloc, place)?;
         let header = header_of(alloc, digest)?;
         let new = path_with(alloc, path.as_str(), ".new")?;
-        let fault = Fault::new(alloc)?;
-        let found = open(rt, alloc, path.as_str(), &fault)?;
+        let last_error = LastError::new(alloc)?;
+        let found = open(rt, alloc, path.as_str(), &last_error)?;
         if !found.1.starts_with(&header) && is_there(rt, new.as_str()) {
-            if let Some(other) = open_whole(rt, alloc, new.as_str(), &header, &fault)? {
+            if let Some(other) = open_whole(rt, alloc, new.as_str(), &header, &last_error)? {
                 drop(found);
                 move_over(rt, alloc, new.as_str(), path.as_str())?;
-                return Journal::of(rt, alloc, path, fault, other, header);
+                return Journal::of(rt, alloc, path, last_error, other, header);
             }
         }
-        Journal::of(rt, alloc, path, fault, found, header)
+        Journal::of(rt, alloc, path, last_error, found, header)
     }
 
     /// A journal that was opened. Where it has no lines of its own, it begins with the header.
@@ -143,7 +143,7 @@ impl Journal {
         rt: &R,
         alloc: Global,
         path: String,
-        fault: Fault,
+        last_error: LastError,
         (lines, text): (Lines, Vec<u8>),
         header: Vec<u8>,
     ) -> Result<Found, Failure> {
@@ -153,7 +153,7 @@ impl Journal {
         let mut journal = Journal {
             path,
             lines: Some(lines),
-            fault,
+            last_error,
             end,
             is_unsure: false,
         };
@@ -179,7 +179,7 @@ impl Journal {
     ) -> Result<(), Failure> {
         header.extend_from_slice(b"\n")?;
         if let Err(error) = self.add(&header) {
-            return Err(self.fault.of(alloc, self.path.as_str(), error));
+            return Err(self.last_error.of(alloc, self.path.as_str(), error));
         }
         match sync_folder(rt, alloc, self.path.as_str()) {
             Some(failure) => Err(failure),
@@ -214,7 +214,7 @@ impl Journal {
 
     /// Opens the journal again behind a change that failed: what was not acknowledged is cut off.
     fn reopen<R: Files<File = File>>(&mut self, rt: &R, alloc: Global) -> Result<(), Failure> {
-        let (lines, text) = open_again(rt, alloc, self.path.as_str(), self.end, &self.fault)?;
+        let (lines, text) = open_again(rt, alloc, self.path.as_str(), self.end, &self.last_error)?;
         if text.len() != self.end {
             return Err(changed_by_another(alloc, self.path.as_str()));
         }
@@ -235,7 +235,7 @@ impl Journal {
         }
         match self.add(batch) {
             Ok(()) => Ok(()),
-            Err(error) => Err(self.fault.of(alloc, self.path.as_str(), error)),
+            Err(error) => Err(self.last_error.of(alloc, self.path.as_str(), error)),
         }
     }
 
@@ -313,7 +313,7 @@ impl Journal {
         if is_there(rt, new.as_str()) {
             move_over(rt, alloc, new.as_str(), path)?;
         }
-        let (lines, text) = open(rt, alloc, path, &self.fault)?;
+        let (lines, text) = open(rt, alloc, path, &self.last_error)?;
         drop(text);
         self.end = lines.end();
         self.lines = Some(lines);

@@ -52,7 +52,7 @@ named_selector names s n h = by (slice_get names s.0) refl
     by (Some text) e = slice_get_within names s.0 text e
     by None e = absurd (let k : None ≡ Some n = rw e at h in cc)
 
-named_message : (names : List (List ℕ)) (edits : List Edit) (actors : ℕ) (m : Message) → message_fits names (class_count edits) actors m ≡ true → MessageIsNamed names edits m
+pub named_message : (names : List (List ℕ)) (edits : List Edit) (actors : ℕ) (m : Message) → message_fits names (class_count edits) actors m ≡ true → MessageIsNamed names edits m
 named_message names edits actors m h =
     let both = and_parts (is_number (arity_at names m.selector) (length m.args)) (list_all (argument_fits names (class_count edits) actors) m.args) h in
     record {
@@ -60,7 +60,7 @@ named_message names edits actors m h =
       args = All-weaker _ _ (λ v t. named_value names edits actors 0 v t) m.args (AllPass-from_list_all (argument_fits names (class_count edits) actors) m.args both.1);
     }
 
-named_class : (edits : List Edit) (c : ClassId) → has_instances edits c ≡ true → is_class edits c ≡ true
+pub named_class : (edits : List Edit) (c : ClassId) → has_instances edits c ≡ true → is_class edits c ≡ true
 named_class edits c h = (and_parts (is_class edits c) (not (is_value_class c)) h).0
 
 named_object : (names : List (List ℕ)) (edits : List Edit) (actors objects : ℕ) (o : Object) → IsObject (given names actors) edits objects o → ObjectIsNamed names edits o

@@ -126,7 +126,7 @@ fits_number : (names : List (List ℕ)) (edits : List Edit) (c : ClassId) (m : M
 fits_number names edits c m h = (and_parts (m.holder.0 == c.0) (is_number (arity_at names m.selector) m.arguments) (and_parts ((m.holder.0 == c.0) && is_number (arity_at names m.selector) m.arguments) (list_all (instruction_suits names (class_count edits) (length (slots edits c)) (m.arguments + m.temporaries)) m.code) h).0).1
 
 -- the selector of what is removed is a name
-removed_text : (names : List (List ℕ)) (edits more : List Edit) (c : ClassId) (s : Selector) → AllSuit names (edits ++ more) → first_of (edit_rules edits (Remove c s)) ≡ None → slice_get names s.0 ≡ Some (selector_text names s)
+pub removed_text : (names : List (List ℕ)) (edits more : List Edit) (c : ClassId) (s : Selector) → AllSuit names (edits ++ more) → first_of (edit_rules edits (Remove c s)) ≡ None → slice_get names s.0 ≡ Some (selector_text names s)
 removed_text names edits more c s all h =
     let w = removed_stands edits c s h in
     let m : MethodParts = w.1.method in

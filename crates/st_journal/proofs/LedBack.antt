@@ -29,7 +29,7 @@ use Rattle.st_journal.proofs.SaidLines.{reading_leads}
 -- ---- where an image stands
 
 -- the constants of a run with all names that there will be
-abbrev with_all : List (List ℕ) → ℕ → Constants
+abbrev pub with_all : List (List ℕ) → ℕ → Constants
 with_all names n = record { names = names; capacity = n }
 
 -- an image has these names, this world and this capacity
@@ -98,7 +98,7 @@ name_stands i m text here w n at behind d = record {
 }
 
 -- what is left of what happened behind a mark that led to a world
-led_on : (c : Constants) (w u v : World) (x : Mark) (ms : List Mark) → after c w x ≡ Some u → after_all c w (x ∷ ms) ≡ Some v → after_all c u ms ≡ Some v
+pub led_on : (c : Constants) (w u v : World) (x : Mark) (ms : List Mark) → after c w x ≡ Some u → after_all c w (x ∷ ms) ≡ Some v → after_all c u ms ≡ Some v
 led_on c w u v x ms step all = sym (ap (λ (o : Option World). option_and_then (λ z. after_all c z ms) o) step) ∙ all
 
 -- ---- one entry

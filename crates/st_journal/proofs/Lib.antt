@@ -4,14 +4,16 @@ mod AlikeWorlds
 mod EntriesRead
 mod FileChanges
 mod Found
-mod Grown
 mod GoingOn
+mod Grown
 mod Installed
+mod ItemsNamed
 mod LaterTables
 mod LedBack
 mod LinesCut
 mod LinesSaid
 mod LinesWritten
+mod MarksMore
 mod Methods
 mod Names
 mod OneLine
@@ -25,6 +27,7 @@ mod Saving
 mod StayingAlike
 mod StepsRefused
 mod TextsAgain
+mod ToldOn
 mod ToldTexts
 mod Turns
 mod WhatTells

@@ -115,7 +115,7 @@ reads_one one i j k lines es fs p q =
 
 -- ---- what is told
 
-front_line : (front rest : List ℕ) → NoNewline front → lines_of (front ++ 10 ∷ rest) ≡ front ∷ lines_of rest
+pub front_line : (front rest : List ℕ) → NoNewline front → lines_of (front ++ 10 ∷ rest) ≡ front ∷ lines_of rest
 front_line [] rest h = refl
 front_line (b ∷ bs) rest h = rw (ne_eqb b 10 h.0, front_line bs rest h.1) refl
 

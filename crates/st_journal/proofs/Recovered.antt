@@ -17,7 +17,7 @@ use Rattle.st_image.specs.Images.{ImageView, constants, world, world_of}
 use Rattle.st_image.specs.Parts.{rebase}
 use Rattle.st_image.specs.RanTargets.{edits_among}
 use Rattle.st_image.specs.Replay.{next, replay}
-use Rattle.st_image.specs.WorldInvariant.{IsLawful, IsSoundItem}
+use Rattle.st_image.specs.WorldInvariant.{IsLawful, IsSoundItem, IsWorld}
 use Rattle.st_image.specs.Worlds.{Constants, World}
 use Rattle.st_image.proofs.GrowingEdits.{replay_edits}
 use Rattle.st_image.proofs.GrowingNames.{replay_more}
@@ -37,7 +37,7 @@ use Rattle.st_journal.proofs.Methods.{never_emptied, same_item}
 item_edits : (c : Constants) (w u : World) (x : Item) → next c w x ≡ Some u → u.edits ≡ w.edits ++ edits_among (x ∷ [])
 item_edits c w u x e = replay_edits c w u (x ∷ []) (ap (λ (o : Option World). option_and_then (λ v. replay c v []) o) e)
 
-one_mark : (c : Constants) (w u : World) (m : Mark) → after c w m ≡ Some u → (more : List Edit) × (u.edits ≡ w.edits ++ more)
+pub one_mark : (c : Constants) (w u : World) (m : Mark) → after c w m ≡ Some u → (more : List Edit) × (u.edits ≡ w.edits ++ more)
 one_mark c w u (did x) e = (edits_among (x ∷ []), item_edits c w u x e)
 one_mark c w u emptied e = ([], ap (λ (v : World). v.edits) (sym (same_Some (rebase w) u e)) ∙ sym (append-nil w.edits))
 
@@ -74,24 +74,30 @@ compiled_item names c w u (Closed a) more all n is h = tt
 compiled_item names c w u (Begun a) more all n is h = tt
 compiled_item names c w u (Ran a k) more all n is h = tt
 
-sound_item : (c : Constants) (w u : World) (x : Item) → next c w x ≡ Some u → AllSound u.edits → IsSoundItem x
-sound_item c w u (Edited e) n h = sound_there w.edits [] e u.edits (item_edits c w u (Edited e) n) h
-sound_item c w u (Created class) n h = tt
-sound_item c w u (Posted a m) n h = tt
-sound_item c w u (Closed a) n h = tt
-sound_item c w u (Begun a) n h = tt
-sound_item c w u (Ran a k) n h = tt
+pub sound_item : (c : Constants) (w u : World) (x : Item) (more : List Edit) (all : List Edit) → next c w x ≡ Some u → all ≡ u.edits ++ more → AllSound all → IsSoundItem x
+sound_item c w u (Edited e) more all n is h =
+    sound_there w.edits more e all (is ∙ ap (λ (es : List Edit). es ++ more) (item_edits c w u (Edited e) n) ∙ append_assoc w.edits (e ∷ []) more) h
+sound_item c w u (Created class) more all n is h = tt
+sound_item c w u (Posted a m) more all n is h = tt
+sound_item c w u (Closed a) more all n is h = tt
+sound_item c w u (Begun a) more all n is h = tt
+sound_item c w u (Ran a k) more all n is h = tt
 
 -- ---- one entry
 
 -- where an item leads, it leads with more names
+pub item_more : (c : Constants) (more : List (List ℕ)) (w u : World) (x : Item) → IsWorld c w → IsSoundItem x → next c w x ≡ Some u → next (named_more c more) w x ≡ Some u
+item_more c more w u x is_world sound e =
+    let k = named_more c more in
+    let whole : replay c w (x ∷ []) ≡ Some u = ap (λ (o : Option World). option_and_then (λ v. replay c v []) o) e in
+    let all : All IsSoundItem (x ∷ []) = All-cons IsSoundItem x [] sound (All-nil IsSoundItem) in
+    let p = bound (λ v. replay k v []) (next k w x) u (replay_more c more w u (x ∷ []) is_world all whole) in
+    p.1 ∙ p.2
+
 pub grown : (i m : ImageView) (more : List (List ℕ)) (x : Item) → IsLawful i → IsLawful m → next (constants i) (world i) x ≡ Some (world m) → next (named_more (constants i) more) (world i) x ≡ Some (world m)
 grown i m more x before behind e =
-    let c = named_more (constants i) more in
-    let sound : All IsSoundItem (x ∷ []) = All-cons IsSoundItem x [] (sound_item (constants i) (world i) (world m) x e behind.standing.sound) (All-nil IsSoundItem) in
-    let whole : replay (constants i) (world i) (x ∷ []) ≡ Some (world m) = ap (λ (o : Option World). option_and_then (λ v. replay (constants i) v []) o) e in
-    let p = bound (λ v. replay c v []) (next c (world i) x) (world m) (replay_more (constants i) more (world i) (world m) (x ∷ []) before.standing sound whole) in
-    p.1 ∙ p.2
+    let sound : IsSoundItem x = sound_item (constants i) (world i) (world m) x [] (world m).edits e (sym (append-nil (world m).edits)) behind.standing.sound in
+    item_more (constants i) more (world i) (world m) x before.standing sound e
 
 -- what is still to be done behind an entry: it tells the rest of what happened
 record Rest (m : ImageView) (es : List Entry) (names : List (List ℕ)) (v : World) : Type 0 where

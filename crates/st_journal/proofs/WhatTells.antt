@@ -11,7 +11,7 @@ use Rattle.st_journal.specs.Marks.{did}
 use Rattle.st_journal.specs.Recovery.{TellingTells, but_names, names_in, told_mark}
 
 -- an item is told by no name
-no_name : (x : Item) (es : List Entry) → (names_in (told x ∷ es) ≡ names_in es) × (but_names (told x ∷ es) ≡ told x ∷ but_names es)
+pub no_name : (x : Item) (es : List Entry) → (names_in (told x ∷ es) ≡ names_in es) × (but_names (told x ∷ es) ≡ told x ∷ but_names es)
 no_name (Edited (Define name parent slots)) es = (refl, refl)
 no_name (Edited (Install c m)) es = (refl, refl)
 no_name (Edited (Remove c s)) es = (refl, refl)
@@ -22,19 +22,19 @@ no_name (Closed a) es = (refl, refl)
 no_name (Begun a) es = (refl, refl)
 no_name (Ran a n) es = (refl, refl)
 
-items_named : (h : List Item) → names_in (map told h) ≡ []
+pub items_named : (h : List Item) → names_in (map told h) ≡ []
 items_named [] = refl
 items_named (x ∷ h) = (no_name x (map told h)).0 ∙ items_named h
 
-items_marked : (h : List Item) → but_names (map told h) ≡ map told_mark (map did h)
+pub items_marked : (h : List Item) → but_names (map told h) ≡ map told_mark (map did h)
 items_marked [] = refl
 items_marked (x ∷ h) = (no_name x (map told h)).1 ∙ ap (λ (es : List Entry). told x ∷ es) (items_marked h)
 
-names_first : (ns : List (List ℕ)) (es : List Entry) → names_in (map entry.Name ns ++ es) ≡ ns ++ names_in es
+pub names_first : (ns : List (List ℕ)) (es : List Entry) → names_in (map entry.Name ns ++ es) ≡ ns ++ names_in es
 names_first [] es = refl
 names_first (n ∷ ns) es = ap (λ (ts : List (List ℕ)). n ∷ ts) (names_first ns es)
 
-marks_behind : (ns : List (List ℕ)) (es : List Entry) → but_names (map entry.Name ns ++ es) ≡ but_names es
+pub marks_behind : (ns : List (List ℕ)) (es : List Entry) → but_names (map entry.Name ns ++ es) ≡ but_names es
 marks_behind [] es = refl
 marks_behind (n ∷ ns) es = marks_behind ns es
 

@@ -15,3 +15,4 @@ pub mod Recovery
 pub mod Refused
 pub mod Replays
 pub mod Saved
+pub mod Telling

@@ -6,6 +6,7 @@ ghost use Rattle.st_journal.specs.EntryForms.{EntriesAreRead, ToldIsText, ToldLa
 ghost use Rattle.st_journal.specs.EntryTexts.{ReadingLeads, ReadsOne, ToldIsRead};
 ghost use Rattle.st_journal.specs.Recovery.{ComesToTheImage, RedoneGoesOn, RedoneIsWhatWasTold, TellingTells};
 ghost use Rattle.st_journal.specs.Saved.{SavesKeep};
+ghost use Rattle.st_journal.specs.Telling.{TellingGoesOn};
 ghost use Rattle.st_log.specs.Lines.{HasFirst};
 ghost use Rattle.st_log.specs.Logs.{HasOldLines};
 
@@ -72,6 +73,14 @@ pub fn texts_say_one()
 #[tactic(auto, using(crate::proofs::ToldTexts::told_is_text))]
 pub fn told_is_text()
     ensures { ToldIsText }
+{}
+
+/// What is told of an image from time to time, line by line, tells what happened to it: the names, the items and the checkpoints that came
+/// since, as [`crate::telling::tell_since`] tells them and [`crate::lines::write_lines`] writes them, also if more has happened by then.
+/// Nothing is asked of them but what is so: that they led from where the lines before had come, and that their numbers are within bounds.
+#[tactic(auto, using(crate::proofs::ToldOn::telling_goes_on))]
+pub fn telling_goes_on()
+    ensures { TellingGoesOn }
 {}
 
 /// Lines that tell what happened, done again from where it began, lead to the very names and the very world to which that led; each line

@@ -10,10 +10,10 @@ use Rattle.st_turn.specs.Claims.{ClaimView}
 use Rattle.st_image.specs.Images.{ImageView}
 use Rattle.st_calls.specs.Growth.{committed}
 use Rattle.st_pool.specs.declared.pool_state.working.Work.{Work}
-use Rattle.st_pool.specs.declared.pool_state.working.Work.TheVariants.{Stop, Wait, Turn}
+use Rattle.st_pool.specs.declared.pool_state.working.Work.TheVariants.{Claimed, Stop, Wait}
 use Rattle.st_pool.specs.Books.{BooksView, no_books}
 use Rattle.st_pool.specs.Calling.{booked}
-use Rattle.st_pool.specs.Done.{PoolView, Takes, TurnsOver, takes_more}
+use Rattle.st_pool.specs.Done.{CommitsAndClaims, PoolView, Takes, takes_more}
 use Rattle.st_pool.specs.Holds.{Event, called, employed, given, handed, settled, any, Happen, Happens, IsHold, IsRun, of_worker, opened}
 
 happen_then : (kind : Event → Bool) (o m p : PoolView) (es fs : List Event) → Happen kind o es m → Happen kind m fs p → Happen kind o (es ++ fs) p
@@ -36,15 +36,15 @@ same_pool o p i b = ap₂ (λ (x : ImageView) (y : BooksView). let q : PoolView 
 pub takes_hold : (o p : PoolView) (w : Work ClaimView) → Takes o.image w p.image → p.books ≡ o.books → IsHold of_worker o p
 takes_hold o p Stop h b = hold_none of_worker o p (same_pool o p h b)
 takes_hold o p (Wait moves) h b = hold_none of_worker o p (same_pool o p h.0 b)
-takes_hold o p (Turn c) h b = hold_one of_worker o p (handed h.0 (Ok c)) refl (h.2, b)
+takes_hold o p (Claimed c) h b = hold_one of_worker o p (handed h.0 (Ok c)) refl (h.2, b)
 
 after : (o m p : PoolView) (b : Bool) (w : Work ClaimView) → MatchBool b (Takes m.image w p.image) ((moves : ℕ) × (w ≡ Wait moves) × (p.image ≡ m.image)) → p.books ≡ m.books → IsHold of_worker m p
 after o m p true w h b = takes_hold m p w h b
 after o m p false w h b = hold_none of_worker m p (same_pool m p h.2 b)
 
 -- so is the end of a quantum
-pub turns_hold : (o p : PoolView) (c : ClaimView) (starved : Bool) (r : Result ℕ Refusal) (w : Work ClaimView) → TurnsOver o.image c starved r w p.image → p.books ≡ record o.books { steps = o.books.steps + committed r } → IsHold of_worker o p
-turns_hold o p c starved r w h b =
+pub commit_and_claim_holds : (o p : PoolView) (c : ClaimView) (starved : Bool) (r : Result ℕ Refusal) (w : Work ClaimView) → CommitsAndClaims o.image c starved r w p.image → p.books ≡ record o.books { steps = o.books.steps + committed r } → IsHold of_worker o p
+commit_and_claim_holds o p c starved r w h b =
     let m : PoolView = record { image = h.between; books = record o.books { steps = o.books.steps + committed r } } in
     hold_then of_worker o m p (hold_one of_worker o m (settled c r) refl (h.settles, refl)) (after o m p (takes_more starved r) w h.next b)
 

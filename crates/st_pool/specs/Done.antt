@@ -13,7 +13,7 @@ use Rattle.st_image.specs.GoingOn.{GoesOnIn}
 use Rattle.st_image.specs.Scheduling.{IsNextReady, is_free_at}
 use Rattle.st_image.specs.WorldInvariant.{IsLawful}
 use Rattle.st_pool.specs.declared.pool_state.working.Work.{Work}
-use Rattle.st_pool.specs.declared.pool_state.working.Work.TheVariants.{Stop, Wait, Turn}
+use Rattle.st_pool.specs.declared.pool_state.working.Work.TheVariants.{Claimed, Stop, Wait}
 use Rattle.st_pool.specs.declared.receipts.Receipt.{Receipt}
 use Rattle.st_pool.specs.Books.{BooksView}
 use Rattle.st_calls.specs.Growth.{Amounts, amounts}
@@ -70,7 +70,7 @@ abbrev pub Takes : ImageView → Work ClaimView → ImageView → Type 0
 Takes i Stop j = j ≡ i
 Takes i (Wait moves) j =
     (j ≡ i) × (((a : ℕ) → is_free_at i a ≡ false) ⊎ ((a : ActorId) × (e : Refusal) × IsNextReady i a.0 × ChecksOut i a (Err e) j))
-Takes i (Turn c) j = (a : ActorId) × IsNextReady i a.0 × ChecksOut i a (Ok c) j
+Takes i (Claimed c) j = (a : ActorId) × IsNextReady i a.0 × ChecksOut i a (Ok c) j
 
 -- A worker takes more work in the hold of its commit where its claim is spent: it was committed, and memory did not run out in its
 -- quantum; or it is Stale or Changed
@@ -82,7 +82,7 @@ takes_more starved (Err e) = true
 
 -- A hold at the end of a quantum. First the claim is settled; in the image that this leaves the worker finds what is next, where it
 -- takes more. Else it is to wait, and nothing else has changed
-pub record TurnsOver (i : ImageView) (c : ClaimView) (starved : Bool) (result : Result ℕ Refusal) (work : Work ClaimView) (j : ImageView) : Type 0 where
+pub record CommitsAndClaims (i : ImageView) (c : ClaimView) (starved : Bool) (result : Result ℕ Refusal) (work : Work ClaimView) (j : ImageView) : Type 0 where
   pub between : ImageView
   pub settles : Settles i c result between
   pub next : MatchBool (takes_more starved result) (Takes between work j) ((moves : ℕ) × (work ≡ Wait moves) × (j ≡ between))

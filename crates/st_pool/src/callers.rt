@@ -104,7 +104,7 @@ impl<'a, K: Naming, M: Mailbox> Caller<'a, K, M> {
         let has_news = pool.take_news();
         drop(pool);
         shared.wake_if(wakes);
-        shared.tell_if(has_news);
+        shared.notify_if(has_news);
         out
     }
 

@@ -46,9 +46,9 @@ impl<K: Naming> ClaimSlot<K> {
         match work {
             Work::Stop => Work::Stop,
             Work::Wait(seen) => Work::Wait(seen),
-            Work::Turn(pool_claim) => {
+            Work::Claimed(pool_claim) => {
                 self.pool_claim = Some(pool_claim);
-                Work::Turn(())
+                Work::Claimed(())
             }
         }
     }
@@ -92,7 +92,7 @@ impl<K: Naming> ClaimSlot<K> {
 
     /// Commits the claim, if there is one, and looks for the next one if the slot goes on. The answer is that of the commit, and what
     /// was found.
-    fn turn_over<M: Mailbox>(
+    fn commit_and_claim<M: Mailbox>(
         &mut self,
         alloc: Global,
         pool: &mut PoolState<K, M>,
@@ -102,7 +102,7 @@ impl<K: Naming> ClaimSlot<K> {
         ensures { IsHold of_worker pool.old pool.new }
     {
         let pool_claim = self.pool_claim.take()?;
-        let (answer, work) = pool.turn_over(
+        let (answer, work) = pool.commit_and_claim(
             alloc,
             share,
             pool_claim,
@@ -149,15 +149,15 @@ impl Ran {
 
 /// What a hold came to: how many claims were committed, whether the worker has claims, and what it is to do if it has none.
 #[derive(Drop)]
-pub(crate) struct Turned {
+pub(crate) struct HoldOutcome {
     pub(crate) committed: u32,
     pub(crate) goes_on: bool,
     pub(crate) next: Work<()>,
 }
 
-impl Turned {
-    fn add(&mut self, turned: Option<(Result<u32, Refusal>, Work<()>)>) {
-        let Some((answer, work)) = turned else {
+impl HoldOutcome {
+    fn add(&mut self, outcome: Option<(Result<u32, Refusal>, Work<()>)>) {
+        let Some((answer, work)) = outcome else {
             return;
         };
         if answer.is_ok() {
@@ -231,29 +231,29 @@ impl<K: Naming> ClaimSlots<K> {
     /// slot at least goes on if an actor is ready behind the last commit, unless memory or the history ran out or the workers are to end,
     /// and all do if `are_several` says so and no worker is idle.
     #[tactic(auto, using(crate::proofs::Holding::hold_then))]
-    pub(crate) fn turn_over<M: Mailbox>(
+    pub(crate) fn commit_and_claim<M: Mailbox>(
         &mut self,
         alloc: Global,
         pool: &mut PoolState<K, M>,
         share: &mut WorkerShare<K>,
         rests: bool,
         are_several: bool,
-    ) -> Turned
+    ) -> HoldOutcome
         ensures { IsHold of_worker pool.old pool.new }
     {
-        let mut turned = Turned {
+        let mut outcome = HoldOutcome {
             committed: 0,
             goes_on: false,
             next: Work::Wait(pool.moves()),
         };
-        turned.add(self.first.turn_over(alloc, pool, share, !rests));
+        outcome.add(self.first.commit_and_claim(alloc, pool, share, !rests));
         if self.are_several {
             for claim_slot in &mut self.others {
-                let goes_on = !turned.goes_on || are_several && !pool.has_idle();
-                turned.add(claim_slot.turn_over(alloc, pool, share, goes_on && !rests));
+                let goes_on = !outcome.goes_on || are_several && !pool.has_idle();
+                outcome.add(claim_slot.commit_and_claim(alloc, pool, share, goes_on && !rests));
             }
         }
-        turned
+        outcome
     }
 
     /// Takes one claim more, if there is a slot for it and an actor is ready.

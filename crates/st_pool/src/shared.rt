@@ -38,7 +38,7 @@ const LOOKS_FOR_END: u32 = 32;
 
 /// How often a worker that found nothing looks, at long intervals, whether there is something now before it sleeps. The next message of a
 /// client who waits for each reply comes sooner than a thread that sleeps would be woken.
-const LOOKS_FOR_WORK: u32 = 48;
+const LOOKS_FOR_WORK: u32 = 128;
 
 /// Lets some time pass.
 #[inline]
@@ -189,7 +189,7 @@ impl<K: Naming, M: Mailbox> Shared<K, M> {
     }
 
     /// A turn has ended, or the turns have been numbered anew, if so: the callers that wait look again.
-    pub(crate) fn tell_if(&self, has_news: bool) {
+    pub(crate) fn notify_if(&self, has_news: bool) {
         if has_news {
             self.ended.notify_all();
         }

@@ -147,12 +147,12 @@ impl Waiting {
     }
 
     /// A worker is about to sleep, and holds the lock until it does.
-    pub(crate) fn lie_down(&mut self) {
+    pub(crate) fn begin_sleep(&mut self) {
         self.sleepers = self.sleepers.wrapping_add(1);
     }
 
     /// A worker that was about to sleep, or slept, has the lock again.
-    pub(crate) fn get_up(&mut self) {
+    pub(crate) fn end_sleep(&mut self) {
         self.sleepers = self.sleepers.wrapping_sub(1);
     }
 
@@ -173,12 +173,12 @@ impl Waiting {
     }
 
     /// A worker is about to rest, and holds the lock until it does.
-    pub(crate) fn sit_down(&mut self) {
+    pub(crate) fn begin_rest(&mut self) {
         self.resting = self.resting.wrapping_add(1);
     }
 
     /// A worker that was about to rest, or rested, has the lock again.
-    pub(crate) fn stand_up(&mut self) {
+    pub(crate) fn end_rest(&mut self) {
         self.resting = self.resting.wrapping_sub(1);
     }
 

@@ -8,7 +8,7 @@ ghost use Rattle.st_classes.specs.declared.refusals.Refusal.TheVariants as refus
 ghost use Rattle.st_classes.specs.declared.refusals.Limited.TheVariants as limits;
 ghost use Rattle.st_pool.specs.Holds.{IsHold, of_worker};
 
-use crate::claim_slots::{ClaimSlots, Ran, Turned};
+use crate::claim_slots::{ClaimSlots, HoldOutcome, Ran};
 use crate::crowding::Crowding;
 use crate::naming::Naming;
 use crate::pool_state::{PoolState, Work};
@@ -52,11 +52,11 @@ fn wait_past<K: Naming, M: Mailbox, R: Wait>(rt: &R, shared: &Shared<K, M>, seen
         return;
     };
     let mut before = shared.enter(rt);
-    before.waiting.lie_down();
+    before.waiting.begin_sleep();
     let mut behind = shared
         .moved
         .wait_while(rt, before, |pool| pool.waiting.is_still(seen));
-    behind.waiting.get_up();
+    behind.waiting.end_sleep();
 }
 
 /// Rests until something other than short quanta has moved, or the workers are to end. It does not rest if no other worker is awake.
@@ -66,11 +66,11 @@ fn rest<K: Naming, M: Mailbox, R: Wait>(rt: &R, shared: &Shared<K, M>) {
         return;
     }
     let seen = before.waiting.eases();
-    before.waiting.sit_down();
+    before.waiting.begin_rest();
     let mut behind = shared
         .eased
         .wait_while(rt, before, |pool| !pool.waiting.is_eased_since(seen));
-    behind.waiting.stand_up();
+    behind.waiting.end_rest();
 }
 
 /// Waits, or rests if the worker was in the way of others.
@@ -103,7 +103,7 @@ fn next_work<K: Naming, M: Mailbox, R: Wait>(
 /// What a worker does in its hold behind its quanta: it commits its claims, and takes others. `rests` says that it is to take none.
 /// Where the lock was not free, it takes one more than it had, if its quanta were long and all were committed.
 #[tactic(auto, using(crate::proofs::Holding::hold_then))]
-fn settle_all<K: Naming, M: Mailbox>(
+fn commit_and_claim_all<K: Naming, M: Mailbox>(
     alloc: Global,
     pool: &mut PoolState<K, M>,
     share: &mut WorkerShare<K>,
@@ -111,23 +111,23 @@ fn settle_all<K: Naming, M: Mailbox>(
     ran: Ran,
     rests: bool,
     was_free: bool,
-) -> Turned
+) -> HoldOutcome
     ensures { IsHold of_worker pool.old pool.new }
 {
     let are_long = !ran.has_short();
-    let turned = claim_slots.turn_over(alloc, pool, share, rests, are_long);
-    let is_well = turned.committed == ran.count && !ran.is_starved;
-    if turned.goes_on && is_well && are_long && !was_free && !pool.has_idle() {
+    let outcome = claim_slots.commit_and_claim(alloc, pool, share, rests, are_long);
+    let is_well = outcome.committed == ran.count && !ran.is_starved;
+    if outcome.goes_on && is_well && are_long && !was_free && !pool.has_idle() {
         claim_slots.take_more(alloc, pool, share);
     }
     pool.note_want(ran.is_starved);
-    turned
+    outcome
 }
 
 /// Commits the steps of the worker's quanta, and answers what the worker does next, both in one hold. A commit readies at most one
 /// actor more than its slot takes next, so for each one other worker is woken if one sleeps and an actor is ready. One that rests is
 /// woken too, but not after short quanta whose worker goes on or rests.
-fn turn_over<K: Naming, M: Mailbox, R: Wait>(
+fn commit_and_claim<K: Naming, M: Mailbox, R: Wait>(
     rt: &R,
     alloc: Global,
     shared: &Shared<K, M>,
@@ -144,15 +144,15 @@ fn turn_over<K: Naming, M: Mailbox, R: Wait>(
         None => shared.enter(rt),
     };
     let rests = crowding.asks_for_rest(!ran.is_starved && pool.has_helpers());
-    let turned = settle_all(alloc, &mut pool, share, claim_slots, ran, rests, was_free);
+    let outcome = commit_and_claim_all(alloc, &mut pool, share, claim_slots, ran, rests, was_free);
     let wants_help = pool.wants_help();
-    let is_hurried = ran.long == 0 && (rests || turned.goes_on);
+    let is_hurried = ran.long == 0 && (rests || outcome.goes_on);
     let wants_more = !is_hurried && pool.wants_more();
     let has_news = pool.take_news();
     drop(pool);
-    shared.tell_if(has_news);
+    shared.notify_if(has_news);
     claim_slots.let_go();
-    for _ in 0..turned.committed {
+    for _ in 0..outcome.committed {
         if wants_help {
             shared.moved.notify_one();
         }
@@ -160,10 +160,10 @@ fn turn_over<K: Naming, M: Mailbox, R: Wait>(
             shared.eased.notify_one();
         }
     }
-    if turned.goes_on {
-        Work::Turn(())
+    if outcome.goes_on {
+        Work::Claimed(())
     } else {
-        turned.next
+        outcome.next
     }
 }
 
@@ -199,7 +199,7 @@ fn take_quanta<G: Guard, K: Naming, M: Mailbox, T: Gate, R: Wait>(
     } = state;
     let WorkerConfig { number, quantum } = config;
     let ran = claim_slots.run(alloc, pool_worker, quantum, number, gate);
-    let work = turn_over(rt, alloc, shared, share, claim_slots, ran, crowding);
+    let work = commit_and_claim(rt, alloc, shared, share, claim_slots, ran, crowding);
     for _ in 0..ran.count {
         gate.after(number);
     }
@@ -224,7 +224,7 @@ fn take_quanta_until_stop<G: Guard, K: Naming, M: Mailbox, T: Gate, R: Wait>(
                 pause(rt, shared, &mut state.crowding, seen);
                 next_work(rt, alloc, shared, share, &mut state.claim_slots)
             }
-            Work::Turn(()) => {
+            Work::Claimed(()) => {
                 // Nobody else can take the actors of the claims meanwhile.
                 if state.crowding.lets_others_run() {
                     yield_now();

@@ -10,10 +10,10 @@ use st_pool::naming::Naming;
 use st_pool::shares::CallerShare;
 use st_pool::totals::Totals;
 use st_script::keepers::Nobody;
-use st_server::attending::{Desk, attend};
+use st_server::admission::Admission;
+use st_server::attending::{Services, attend};
 use st_server::recording::Recorder;
-use st_server::starts::Place;
-use st_server::turns::Turns;
+use st_server::starts::ServerInfo;
 use st_wire::streams::{MemoryInput, Writer};
 use std::alloc::{AllocError, Global};
 use std::io::{self, ErrorKind, Write};
@@ -81,19 +81,19 @@ fn talk<K: Naming, R: Wait + Clock>(
     let mut input = MemoryInput::new(lines);
     let mut output = Writer::new(Failing { left: WRITES });
     let sessions = AtomicU64::new(1);
-    let place = Place {
+    let info = ServerInfo {
         start: 0,
         sessions: &sessions,
         workers: 1,
     };
-    let turns = Turns::new();
+    let admission = Admission::new();
     let recorder = Recorder::new(alloc, &stage.shared, &Nobody, 0, 0, 0);
-    let desk = Desk {
+    let services = Services {
         keeper: &Nobody,
         recorder: &recorder,
-        turns: &turns,
+        admission: &admission,
     };
-    attend(rt, alloc, place, desk, caller, &mut input, &mut output)
+    attend(rt, alloc, info, services, caller, &mut input, &mut output)
 }
 
 /// The thread of the session's caller.

@@ -3,7 +3,7 @@ ghost use Rattle.std.specs.Prelude.{◌≡◌, IfOk};
 ghost use Rattle.serde_json.specs.View.{view};
 ghost use Rattle.st_file.specs.BodyJson.{body_json, frame_json, frames_json, object_json, phase_json, start_json};
 
-use crate::listing::{Telling, each, only};
+use crate::listing::{ToJson, each, only};
 use crate::texts::{class_text, selector_text};
 use crate::values::{Table, value, values};
 use st_classes::values::{Selector, Value};
@@ -14,10 +14,10 @@ use st_wire::names::fault_name;
 use st_wire::told::{Items, Members, Told};
 use std::alloc::{AllocError, Global};
 
-impl<'a> Telling<Object> for Table<'a> {
-    ghost tells = { λ t o. object_json t.names.now t.version.now o };
+impl<'a> ToJson<Object> for Table<'a> {
+    ghost json = { λ t o. object_json t.names.now t.version.now o };
 
-    fn tell(&self, alloc: Global, item: &Object) -> Result<Told, AllocError> {
+    fn to_json(&self, alloc: Global, item: &Object) -> Result<Told, AllocError> {
         let mut members = Members::new(alloc);
         members.put(alloc, "class", class_text(alloc, self.version, item.class)?)?;
         members.put(alloc, "slots", values(alloc, *self, item.slots.as_slice())?)?;

@@ -5,7 +5,7 @@ ghost use Rattle.st_image.specs.Failures.{failures_of};
 ghost use Rattle.st_image.specs.Newest.{newest};
 ghost use Rattle.st_queries.specs.FailedTurns.{failed_behind, failed_since as seen_since, failed_told, failed_turn as failed_turn_of, faults_told, if_behind, lost_until as lost_in, told_from as from_of};
 
-use crate::listing::{Telling, each};
+use crate::listing::{ToJson, each};
 use st_classes::faults::Fault;
 use st_classes::seq::Seq;
 use st_classes::values::ActorId;
@@ -116,10 +116,10 @@ pub(crate) fn failed_since<M: Mailbox>(
 #[derive(Drop)]
 struct EachFailed;
 
-impl Telling<FailedTurn> for EachFailed {
-    ghost tells = { λ t f. failed_told f };
+impl ToJson<FailedTurn> for EachFailed {
+    ghost json = { λ t f. failed_told f };
 
-    fn tell(&self, alloc: Global, item: &FailedTurn) -> Result<Told, AllocError> {
+    fn to_json(&self, alloc: Global, item: &FailedTurn) -> Result<Told, AllocError> {
         let mut members = Members::new(alloc);
         members.put(alloc, "actor", Told::whole(item.actor.0.into()))?;
         members.put(alloc, "fault", Told::word(alloc, fault_name(item.fault))?)?;

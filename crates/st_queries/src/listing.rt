@@ -7,6 +7,11 @@ ghost use Rattle.st_queries.specs.Listing.{listed};
 
 use st_wire::told::{Items, Members, Told};
 use std::alloc::{AllocError, Global};
+use std::thread::yield_now;
+
+/// How many numbers are looked at before other threads may run. An answer may take a millisecond, and who wakes meanwhile would wait for
+/// its end where no processor is free.
+const ROWS_AT_ONCE: u32 = 64;
 
 /// The rows of an answer, by number.
 pub(crate) trait Rows {
@@ -39,6 +44,9 @@ pub(crate) fn list<R: Rows>(
 {
     let mut items = Items::new(alloc);
     for number in from..until {
+        if number.is_multiple_of(ROWS_AT_ONCE) {
+            yield_now();
+        }
         if let Some(told) = rows.row(alloc, number)? {
             items.push(told)?;
         }
@@ -46,31 +54,31 @@ pub(crate) fn list<R: Rows>(
     Ok(items.told())
 }
 
-/// What is told of items of a type.
-pub(crate) trait Telling<T> {
+/// How items of a type are told.
+pub(crate) trait ToJson<T> {
     ghost use Rattle.std.specs.Prelude.{◌≡◌, IfOk};
     ghost use Rattle.serde_json.specs.Data.{Data};
     ghost use Rattle.serde_json.specs.View.{view};
 
     /// What is told of an item.
-    ghost tells: { Self → T → Data };
+    ghost json: { Self → T → Data };
 
     /// Tells it. Fails only if memory runs out.
-    fn tell(&self, alloc: Global, item: &T) -> Result<Told, AllocError>
-        ensures { IfOk result (λ told. view told ≡ tells self.now item.now) };
+    fn to_json(&self, alloc: Global, item: &T) -> Result<Told, AllocError>
+        ensures { IfOk result (λ told. view told ≡ json self.now item.now) };
 }
 
 /// The list of what is told of each item. Fails only if memory runs out.
-pub(crate) fn each<T, R: Telling<T>>(
+pub(crate) fn each<T, R: ToJson<T>>(
     alloc: Global,
     teller: &R,
     list: &[T],
 ) -> Result<Told, AllocError>
-    ensures { IfOk result (λ told. view told ≡ each_of (R.tells teller.now) list.now) }
+    ensures { IfOk result (λ told. view told ≡ each_of (R.json teller.now) list.now) }
 {
     let mut items = Items::new(alloc);
     for item in list {
-        items.push(teller.tell(alloc, item)?)?;
+        items.push(teller.to_json(alloc, item)?)?;
     }
     Ok(items.told())
 }

@@ -3,7 +3,7 @@ ghost use Rattle.std.specs.Prelude.{◌≡◌, IfOk};
 ghost use Rattle.serde_json.specs.View.{view};
 ghost use Rattle.st_file.specs.MessageJson.{message_json, sender_json};
 
-use crate::listing::{Telling, only};
+use crate::listing::{ToJson, only};
 use crate::texts::selector_text;
 use crate::values::{Table, values};
 use st_mailbox::messages::{Message, Sender};
@@ -20,10 +20,10 @@ fn sender(alloc: Global, sender: Sender) -> Result<Told, AllocError>
     }
 }
 
-impl<'a> Telling<Message> for Table<'a> {
-    ghost tells = { λ t m. message_json t.names.now t.version.now m };
+impl<'a> ToJson<Message> for Table<'a> {
+    ghost json = { λ t m. message_json t.names.now t.version.now m };
 
-    fn tell(&self, alloc: Global, item: &Message) -> Result<Told, AllocError> {
+    fn to_json(&self, alloc: Global, item: &Message) -> Result<Told, AllocError> {
         let mut members = Members::new(alloc);
         members.put(alloc, "args", values(alloc, *self, item.args.as_slice())?)?;
         members.put(

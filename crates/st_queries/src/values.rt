@@ -4,7 +4,7 @@ ghost use Rattle.serde_json.specs.View.{view};
 ghost use Rattle.st_file.specs.ValueJson.{value_json, values_json};
 ghost use Rattle.st_queries.specs.MethodNames.{method_named as named_method};
 
-use crate::listing::{Telling, each, only};
+use crate::listing::{ToJson, each, only};
 use crate::texts::{class_text, selector_text};
 use st_classes::names::Names;
 use st_classes::values::{ClassId, Selector, Value};
@@ -39,10 +39,10 @@ pub(crate) struct Table<'a> {
     pub(crate) version: &'a Version,
 }
 
-impl<'a> Telling<Value> for Table<'a> {
-    ghost tells = { λ t v. value_json t.names.now t.version.now v };
+impl<'a> ToJson<Value> for Table<'a> {
+    ghost json = { λ t v. value_json t.names.now t.version.now v };
 
-    fn tell(&self, alloc: Global, item: &Value) -> Result<Told, AllocError> {
+    fn to_json(&self, alloc: Global, item: &Value) -> Result<Told, AllocError> {
         value(alloc, self.names, self.version, *item)
     }
 }

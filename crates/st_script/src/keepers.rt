@@ -65,7 +65,7 @@ pub trait Keeper: JournalWriter {
 
     /// Says why it could not keep an image or append to the journal last, if that is said anywhere and was not said yet. This may take
     /// its time, so it is asked where no other session waits for it.
-    fn tell(&self);
+    fn report_error(&self);
 }
 
 /// Nobody: there is no place for images.
@@ -98,7 +98,7 @@ impl Keeper for Nobody {
 
     fn note_checkpoint(&self, _alloc: Global, _image: &Image) {}
 
-    fn tell(&self) {}
+    fn report_error(&self) {}
 }
 
 /// The reply to one who wants an image saved, as it was at a moment, once that is written; or why it was not copied.
@@ -145,6 +145,6 @@ pub(crate) fn save<S: Keeper>(alloc: Global, keeper: &S, image: &Image) -> Reply
     let moment = copied(alloc, image);
     let reply = written(alloc, keeper, moment);
     let reply = replaced(alloc, keeper, keeper.end(), reply);
-    keeper.tell();
+    keeper.report_error();
     reply
 }

@@ -2,7 +2,7 @@
 use boxcar::Vec as Faults;
 use st_classes::refusals::Refusal;
 use st_pool::totals::Totals;
-use st_server::porters::{FaultList, Witness};
+use st_server::accept_policy::{FaultList, SessionObserver};
 use st_server::sockets::serve_on;
 use std::alloc::Global;
 use std::fs::Files;

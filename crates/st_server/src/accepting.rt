@@ -2,13 +2,13 @@
 ghost use Rattle.std.specs.Prelude.{◌≡◌, ◌⊎◌, ◌↔◌, IsTrue};
 ghost use Rattle.std.specs.declared.io.ErrorKind.TheVariants.{ConnectionAborted, Interrupted};
 
-use crate::attending::{Desk, attend};
+use crate::accept_policy::{AcceptPolicy, SessionObserver};
+use crate::admission::Admission;
+use crate::attending::{Services, attend};
 use crate::awaiting::Awaiting;
 use crate::polling::Polled;
-use crate::porters::{Porter, Witness};
 use crate::recording::Recorder;
-use crate::starts::Place;
-use crate::turns::Turns;
+use crate::starts::ServerInfo;
 use st_classes::refusals::Refusal;
 use st_pool::accounts::Account;
 use st_pool::callers::Caller;
@@ -43,24 +43,24 @@ const NO_MEMORY: &[u8] = b"{\"error\":\"NoMemory\"}\n";
 pub(crate) struct Acceptor<'a, P, W, S> {
     pub(crate) listener: UnixListener,
     pub(crate) sessions: Option<u32>,
-    pub(crate) porter: &'a P,
-    pub(crate) witness: &'a W,
+    pub(crate) policy: &'a P,
+    pub(crate) observer: &'a W,
     pub(crate) keeper: &'a S,
 }
 
 /// What the sessions share: the image, the shares of ended sessions, room for what these have done, the number of open sessions, who is
-/// told of their ends, who keeps the image, who goes on with its journal, the turns that they take, when the server began, in nanoseconds since 1970, and how many workers
-/// it has.
+/// told of their ends, who keeps the image, who goes on with its journal, how many at a time do what, when the server began, in nanoseconds
+/// since 1970, and how many workers it has.
 #[derive(Drop)]
-pub(crate) struct Room<'a, K: Naming, W, S: Keeper> {
+pub(crate) struct ServerState<'a, K: Naming, W, S: Keeper> {
     pub(crate) shared: &'a Shared<K, Mailbox>,
     pub(crate) shares: &'a Mutex<Vec<CallerShare<K>>>,
     pub(crate) accounts: &'a Mutex<Vec<Account>>,
     pub(crate) active: &'a AtomicU64,
-    pub(crate) witness: &'a W,
+    pub(crate) observer: &'a W,
     pub(crate) keeper: &'a S,
     pub(crate) recorder: &'a Recorder<'a, K, S>,
-    pub(crate) turns: &'a Turns,
+    pub(crate) admission: &'a Admission,
     pub(crate) start: u64,
     pub(crate) workers: u64,
 }
@@ -90,8 +90,8 @@ fn turn_away(mut stream: &UnixStream, line: &[u8]) {
 fn serve_stream<K: Naming, S: Keeper, R: Wait + Clock>(
     rt: &R,
     alloc: Global,
-    place: Place<'_>,
-    desk: Desk<'_, K, S>,
+    info: ServerInfo<'_>,
+    services: Services<'_, K, S>,
     caller: Caller<'_, K, Mailbox>,
     stream: &UnixStream,
 ) -> (CallerShare<K>, Result<u64, Refusal>) {
@@ -100,7 +100,7 @@ fn serve_stream<K: Naming, S: Keeper, R: Wait + Clock>(
     let awaiting = Awaiting {
         rt,
         alloc,
-        recorder: desk.recorder,
+        recorder: services.recorder,
         output: Polled::new(stream),
     };
     let Ok(buffered) = BufWriter::new(alloc, awaiting) else {
@@ -109,7 +109,7 @@ fn serve_stream<K: Naming, S: Keeper, R: Wait + Clock>(
     };
     let mut input = Reader::new(Polled::new(stream));
     let mut output = Writer::new(buffered);
-    let (share, result) = attend(rt, alloc, place, desk, caller, &mut input, &mut output);
+    let (share, result) = attend(rt, alloc, info, services, caller, &mut input, &mut output);
     match output.finish() {
         Ok(_) => (share, result),
         Err(_) => (share, Err(Refusal::WriteFault)),
@@ -120,78 +120,78 @@ fn serve_stream<K: Naming, S: Keeper, R: Wait + Clock>(
 fn run_session<K: Naming, W, S: Keeper, R: Wait + Clock>(
     rt: &R,
     alloc: Global,
-    room: &Room<'_, K, W, S>,
+    server: &ServerState<'_, K, W, S>,
     stream: &UnixStream,
 ) -> Result<u64, Refusal> {
-    let caller = room.shared.caller(rt, alloc)?;
-    let place = Place {
-        start: room.start,
-        sessions: room.active,
-        workers: room.workers,
+    let caller = server.shared.caller(rt, alloc)?;
+    let info = ServerInfo {
+        start: server.start,
+        sessions: server.active,
+        workers: server.workers,
     };
-    let desk = Desk {
-        keeper: room.keeper,
-        recorder: room.recorder,
-        turns: room.turns,
+    let services = Services {
+        keeper: server.keeper,
+        recorder: server.recorder,
+        admission: server.admission,
     };
-    let (share, result) = serve_stream(rt, alloc, place, desk, caller, stream);
-    let _ = room.shares.lock(rt).push(share);
+    let (share, result) = serve_stream(rt, alloc, info, services, caller, stream);
+    let _ = server.shares.lock(rt).push(share);
     result
 }
 
 /// Runs a session in its thread.
-fn session_thread<K: Naming, W: Witness<R>, S: Keeper, R: Wait + Clock>(
+fn session_thread<K: Naming, W: SessionObserver<R>, S: Keeper, R: Wait + Clock>(
     rt: &R,
     alloc: Global,
-    room: &Room<'_, K, W, S>,
+    server: &ServerState<'_, K, W, S>,
     stream: UnixStream,
 ) {
-    let ended = run_session(rt, alloc, room, &stream);
+    let ended = run_session(rt, alloc, server, &stream);
     if ended.is_err() {
         drain(&stream);
     }
     // First the place is given back: whoever has read the end of this session finds it. Who is told of it may take his time.
-    room.active.fetch_sub(1, Ordering::SeqCst);
+    server.active.fetch_sub(1, Ordering::SeqCst);
     drop(stream);
     if let Err(refusal) = ended {
-        room.witness.ended(rt, refusal);
+        server.observer.ended(rt, refusal);
     }
 }
 
 /// Makes room for the shares of as many sessions as can be open, and for the accounts of these and of all that have ended.
-fn make_room<K: Naming, W, S: Keeper, R: Wait>(rt: &R, room: &Room<'_, K, W, S>) -> bool {
-    let mut shares = room.shares.lock(rt);
+fn make_room<K: Naming, W, S: Keeper, R: Wait>(rt: &R, server: &ServerState<'_, K, W, S>) -> bool {
+    let mut shares = server.shares.lock(rt);
     if shares.reserve(MOST_SESSIONS as usize + 1).is_err() {
         return false;
     }
     let most = shares.capacity();
     drop(shares);
-    room.accounts.lock(rt).reserve(most).is_ok()
+    server.accounts.lock(rt).reserve(most).is_ok()
 }
 
 /// Whether there is no place for a client.
-fn is_full<K: Naming, P: Porter<R>, W, S: Keeper, R>(
+fn is_full<K: Naming, P: AcceptPolicy<R>, W, S: Keeper, R>(
     rt: &R,
-    room: &Room<'_, K, W, S>,
-    porter: &P,
+    server: &ServerState<'_, K, W, S>,
+    policy: &P,
     client: &UnixStream,
 ) -> bool {
-    let active = room.active.load(Ordering::SeqCst);
-    active > MOST_SESSIONS || active == MOST_SESSIONS && !porter.is_operator(rt, client)
+    let active = server.active.load(Ordering::SeqCst);
+    active > MOST_SESSIONS || active == MOST_SESSIONS && !policy.is_operator(rt, client)
 }
 
 /// Whether there is a place for a client, and room for what its session does. If not, it is told so.
-fn has_place<K: Naming, P: Porter<R>, W, S: Keeper, R: Wait>(
+fn has_place<K: Naming, P: AcceptPolicy<R>, W, S: Keeper, R: Wait>(
     rt: &R,
-    room: &Room<'_, K, W, S>,
-    porter: &P,
+    server: &ServerState<'_, K, W, S>,
+    policy: &P,
     client: &UnixStream,
 ) -> bool {
-    if is_full(rt, room, porter, client) {
+    if is_full(rt, server, policy, client) {
         turn_away(client, TOO_MANY);
         return false;
     }
-    if !make_room(rt, room) {
+    if !make_room(rt, server) {
         turn_away(client, NO_MEMORY);
         return false;
     }
@@ -205,14 +205,14 @@ fn is_passing(kind: ErrorKind) -> bool
     kind == ErrorKind::Interrupted || kind == ErrorKind::ConnectionAborted
 }
 
-/// Accepts sessions, each in its own thread of a scope, until their number is reached, the porter lets in nobody any more, or accepting
+/// Accepts sessions, each in its own thread of a scope, until their number is reached, the policy lets in nobody any more, or accepting
 /// fails. The answer is false if it fails.
 fn accept<
     's,
     E,
     K: Naming + Send + Sync,
-    P: Porter<R>,
-    W: Witness<R> + Sync,
+    P: AcceptPolicy<R>,
+    W: SessionObserver<R> + Sync,
     S: Keeper + Sync,
     R: Threads + Wait + Clock + Sync,
 >(
@@ -220,29 +220,29 @@ fn accept<
     rt: &'s R,
     alloc: Global,
     acceptor: &Acceptor<'_, P, W, S>,
-    room: &'s Room<'_, K, W, S>,
+    server: &'s ServerState<'_, K, W, S>,
 ) -> bool {
-    let porter = acceptor.porter;
+    let policy = acceptor.policy;
     let mut left = acceptor.sessions;
     for stream in acceptor.listener.incoming() {
-        if !porter.is_open(rt) {
+        if !policy.is_open(rt) {
             return true;
         }
         let stream = match stream {
             Ok(stream) => stream,
             Err(error) => {
-                if is_passing(error.kind()) || porter.tries_again(rt, &error) {
+                if is_passing(error.kind()) || policy.tries_again(rt, &error) {
                     continue;
                 }
                 return false;
             }
         };
-        if !has_place(rt, room, porter, &stream) {
+        if !has_place(rt, server, policy, &stream) {
             continue;
         }
-        room.active.fetch_add(1, Ordering::SeqCst);
-        if let Err(refused) = scope.spawn(move || session_thread(rt, alloc, room, stream)) {
-            room.active.fetch_sub(1, Ordering::SeqCst);
+        server.active.fetch_add(1, Ordering::SeqCst);
+        if let Err(refused) = scope.spawn(move || session_thread(rt, alloc, server, stream)) {
+            server.active.fetch_sub(1, Ordering::SeqCst);
             drop(refused);
             continue;
         }
@@ -258,13 +258,18 @@ fn accept<
 /// Accepts sessions as `accept` does, and waits for their ends.
 pub(crate) fn accept_all<
     K: Naming + Send + Sync,
-    P: Porter<R>,
-    W: Witness<R> + Sync,
+    P: AcceptPolicy<R>,
+    W: SessionObserver<R> + Sync,
     S: Keeper + Sync,
     R: Threads + Wait + Clock + Sync,
->(rt: &R, alloc: Global, acceptor: Acceptor<'_, P, W, S>, room: &Room<'_, K, W, S>) -> bool {
+>(
+    rt: &R,
+    alloc: Global,
+    acceptor: Acceptor<'_, P, W, S>,
+    server: &ServerState<'_, K, W, S>,
+) -> bool {
     thread::scope(thread::scope_env(), rt, |scope| -> bool {
-        let is_well = accept(scope, rt, alloc, &acceptor, room);
+        let is_well = accept(scope, rt, alloc, &acceptor, server);
         // The open sessions go on, and whoever connects from here on is refused by the system.
         drop(acceptor);
         is_well

@@ -8,11 +8,11 @@ ghost use Rattle.st_script.specs.Keepers.{IsFault, Replaces};
 ghost use Rattle.st_server.specs.PoolReplies.{AsksFound, Attends, CopiesFound};
 ghost use Rattle.st_wire.specs.declared.commands.Command.TheVariants as commands;
 
+use crate::admission::Admission;
 use crate::progress::Progress;
 use crate::readings::{Copied, CopyingBehind};
 use crate::recording::Recorder;
-use crate::starts::Place;
-use crate::turns::Turns;
+use crate::starts::ServerInfo;
 use crate::waits::TurnEnd;
 use st_classes::refusals::Refusal;
 use st_file::moments::Moment;
@@ -127,20 +127,20 @@ impl<K: Naming> Job<K, Mailbox> for CopyingBehind {
     }
 }
 
-/// Who keeps the images of a server and who goes on with its journal, and the turns that its sessions take.
+/// Who keeps the images of a server and who goes on with its journal, and how many sessions at a time do what.
 #[derive(Drop)]
-pub struct Desk<'a, K: Naming, S: Keeper> {
+pub struct Services<'a, K: Naming, S: Keeper> {
     pub keeper: &'a S,
     pub recorder: &'a Recorder<'a, K, S>,
-    pub turns: &'a Turns,
+    pub admission: &'a Admission,
 }
 
 /// A caller that answers commands. Contracts see what it has done.
 struct PoolHandler<'a, R: Wait + Clock, K: Naming, S: Keeper> {
     rt: &'a R,
     caller: Caller<'a, K, Mailbox>,
-    place: Place<'a>,
-    desk: Desk<'a, K, S>,
+    info: ServerInfo<'a>,
+    services: Services<'a, K, S>,
 }
 
 impl<'a, R: Wait + Clock, K: Naming, S: Keeper> Model for PoolHandler<'a, R, K, S> {
@@ -152,12 +152,12 @@ impl<'a, R: Wait + Clock, K: Naming, S: Keeper> Model for PoolHandler<'a, R, K, 
 }
 
 impl<'a, R: Wait + Clock, K: Naming, S: Keeper> PoolHandler<'a, R, K, S> {
-    /// The reply to a query. It is answered behind the hold in which what it needs is copied, in a turn of its own.
+    /// The reply to a query. It is answered behind the hold in which what it needs is copied, once it may be.
     fn reply_to_query(&mut self, alloc: Global, query: Query) -> Reply
         ensures { Attends K.start K.first self.old (commands.Query query) result self.new }
     {
-        let _turn = self.desk.turns.query(self.rt);
-        let host = self.place.host();
+        let _admitted = self.services.admission.query(self.rt);
+        let host = self.info.host();
         let (seen, checkpoints) = self.caller.hold(self.rt, alloc, Seeing { query: &query });
         tell_seen(alloc, seen, host.at(checkpoints), query)
     }
@@ -171,18 +171,18 @@ impl<'a, R: Wait + Clock, K: Naming, S: Keeper> PoolHandler<'a, R, K, S> {
         ensures copies { CopiesFound K.start K.first self.old result.0 self.new }
         ensures same { self.new ≡ self.old }
     {
-        let recorder = self.desk.recorder;
+        let recorder = self.services.recorder;
         let told = recorder.round_before_copying(self.rt, alloc, progress);
         let behind = recorder.behind(progress);
         let copied = self.caller.hold(self.rt, alloc, CopyingBehind { behind });
-        recorder.settle(alloc, progress, told, copied)
+        recorder.write_copied(alloc, progress, told, copied)
     }
 
     /// What the image is now, and where the journal ends that tells all that led there, if there is one.
     fn copy(&mut self, alloc: Global) -> (Result<Moment, Refusal>, u64)
         ensures { CopiesFound K.start K.first self.old result.0 self.new }
     {
-        let recorder = self.desk.recorder;
+        let recorder = self.services.recorder;
         if !recorder.is_kept() {
             return (self.caller.hold(self.rt, alloc, Copying), 0);
         }
@@ -201,8 +201,8 @@ impl<'a, R: Wait + Clock, K: Naming, S: Keeper> PoolHandler<'a, R, K, S> {
     fn replace(&self, alloc: Global, from: u64, reply: Reply) -> Reply
         ensures { Replaces reply result }
     {
-        let progress = self.desk.recorder.lock(self.rt);
-        let reply = replaced(alloc, self.desk.keeper, from, reply);
+        let progress = self.services.recorder.lock(self.rt);
+        let reply = replaced(alloc, self.services.keeper, from, reply);
         drop(progress);
         reply
     }
@@ -212,12 +212,12 @@ impl<'a, R: Wait + Clock, K: Naming, S: Keeper> PoolHandler<'a, R, K, S> {
     fn save(&mut self, alloc: Global) -> Reply
         ensures { Attends K.start K.first self.old commands.Save result self.new }
     {
-        let turn = self.desk.turns.save(self.rt);
+        let admitted = self.services.admission.save(self.rt);
         let (moment, from) = self.copy(alloc);
-        let reply = written(alloc, self.desk.keeper, moment);
+        let reply = written(alloc, self.services.keeper, moment);
         let reply = self.replace(alloc, from, reply);
-        drop(turn);
-        self.desk.keeper.tell();
+        drop(admitted);
+        self.services.keeper.report_error();
         reply
     }
 
@@ -229,7 +229,7 @@ impl<'a, R: Wait + Clock, K: Naming, S: Keeper> PoolHandler<'a, R, K, S> {
             // If there is no room yet, the hold asks for it again, and refuses the post.
             let _ = self.caller.make_room(args.len());
         }
-        let host = self.place.host();
+        let host = self.info.host();
         match TurnEnd::of(alloc, host, &command) {
             Some((end, most)) => {
                 self.caller
@@ -257,8 +257,8 @@ impl<'a, R: Wait + Clock, K: Naming, S: Keeper> Handler for PoolHandler<'a, R, K
 pub fn attend<R: Wait + Clock, K: Naming, S: Keeper, I: Input, O: Output>(
     rt: &R,
     alloc: Global,
-    place: Place<'_>,
-    desk: Desk<'_, K, S>,
+    info: ServerInfo<'_>,
+    services: Services<'_, K, S>,
     caller: Caller<'_, K, Mailbox>,
     input: &mut I,
     output: &mut O,
@@ -273,15 +273,15 @@ pub fn attend<R: Wait + Clock, K: Naming, S: Keeper, I: Input, O: Output>(
     let mut handler = PoolHandler {
         rt,
         caller,
-        place,
-        desk,
+        info,
+        services,
     };
     let result = session(&mut handler, alloc, input, output);
     let PoolHandler {
         rt: _,
         caller,
-        place: _,
-        desk: _,
+        info: _,
+        services: _,
     } = handler;
     (caller.end(), result)
 }

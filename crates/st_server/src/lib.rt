@@ -4,15 +4,15 @@
 //! happened is told and written beside by [`recording`].
 #![tactic(auto)]
 
+pub mod accept_policy;
 mod accepting;
+pub mod admission;
 pub mod attending;
 mod awaiting;
 mod polling;
-pub mod porters;
 mod progress;
 mod readings;
 pub mod recording;
 pub mod sockets;
 pub mod starts;
-pub mod turns;
 mod waits;

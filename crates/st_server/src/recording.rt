@@ -4,9 +4,9 @@
 //! sessions whose replies are to be true after a crash. One thread at a time goes on with the journal.
 ghost use Rattle.st_script.specs.Keepers.{IsFault, StaysOrFails};
 
+use crate::admission::Admission;
 use crate::progress::Progress;
 use crate::readings::{Behind, Copied, CopyingBehind, Read};
-use crate::turns::Turns;
 use st_classes::refusals::Refusal;
 use st_file::moments::Moment;
 use st_pool::naming::Naming;
@@ -317,7 +317,7 @@ impl<'a, K: Naming, S: Keeper> Recorder<'a, K, S> {
 
     /// Writes what was read in a hold behind a round, in which an image was copied. The answer is what was copied, and where the journal
     /// ends that tells all that led there; none where more had happened than was read.
-    pub(crate) fn settle(
+    pub(crate) fn write_copied(
         &self,
         alloc: Global,
         progress: &mut Progress,
@@ -390,7 +390,12 @@ impl<'a, K: Naming, S: Keeper> Recorder<'a, K, S> {
     }
 
     /// Saves the image where much has happened, until the end. Why that cannot be is told by the keeper.
-    pub(crate) fn go_on_saving<R: Wait + Clock>(&self, rt: &R, alloc: Global, turns: &Turns) {
+    pub(crate) fn go_on_saving<R: Wait + Clock>(
+        &self,
+        rt: &R,
+        alloc: Global,
+        admission: &Admission,
+    ) {
         let Some(settings) = self.keeper.journal() else {
             return;
         };
@@ -400,7 +405,7 @@ impl<'a, K: Naming, S: Keeper> Recorder<'a, K, S> {
                 return;
             }
             if self.is_due(rt) {
-                self.save(rt, alloc, turns, settings);
+                self.save(rt, alloc, admission, settings);
             }
         }
     }
@@ -413,7 +418,7 @@ impl<'a, K: Naming, S: Keeper> Recorder<'a, K, S> {
         let mut progress = self.progress.lock(rt);
         let _ = self.round(rt, alloc, &mut progress);
         drop(progress);
-        self.keeper.tell();
+        self.keeper.report_error();
     }
 
     /// Whether the image is to be saved, since much has happened.
@@ -450,13 +455,19 @@ impl<'a, K: Naming, S: Keeper> Recorder<'a, K, S> {
     }
 
     /// Saves the image, as a session does. Whether it is saved or not, it is saved next when much more has happened.
-    fn save<R: Wait>(&self, rt: &R, alloc: Global, turns: &Turns, settings: JournalSettings) {
-        let turn = turns.save(rt);
+    fn save<R: Wait>(
+        &self,
+        rt: &R,
+        alloc: Global,
+        admission: &Admission,
+        settings: JournalSettings,
+    ) {
+        let admitted = admission.save(rt);
         let _ = self.keep(rt, alloc);
         let mut progress = self.progress.lock(rt);
         progress.wait_for_more(self.keeper.end(), settings);
         drop(progress);
-        drop(turn);
-        self.keeper.tell();
+        drop(admitted);
+        self.keeper.report_error();
     }
 }

@@ -9,11 +9,11 @@ ghost use Rattle.st_pool.specs.Holds.{IsRun};
 ghost use Rattle.st_pool.specs.Settled.{AreCounts, AreSums, HaveStood};
 ghost use Rattle.st_server.specs.Serving.{AreInRange, HaveServed};
 
-use crate::accepting::{Acceptor, Room, accept_all};
-use crate::porters::{FaultList, OpenDoor, Porter, Witness};
+use crate::accept_policy::{AcceptAll, AcceptPolicy, FaultList, SessionObserver};
+use crate::accepting::{Acceptor, ServerState, accept_all};
+use crate::admission::Admission;
 use crate::recording::Recorder;
 use crate::starts::now;
-use crate::turns::Turns;
 use boxcar::Vec as Faults;
 use st_classes::refusals::Refusal;
 use st_image::settings::Settings;
@@ -95,18 +95,18 @@ fn start<'s, E, K: Naming + Send + Sync, R: Threads + Wait + Clock + Sync>(
 fn go_on<K: Naming, W, S: Keeper, R: Wait + Clock>(
     rt: &R,
     alloc: Global,
-    room: &Room<'_, K, W, S>,
+    server: &ServerState<'_, K, W, S>,
 ) {
-    room.recorder.go_on(rt, alloc);
+    server.recorder.go_on(rt, alloc);
 }
 
 /// Saves the image where its journal has become long, until the end.
 fn go_on_saving<K: Naming, W, S: Keeper, R: Wait + Clock>(
     rt: &R,
     alloc: Global,
-    room: &Room<'_, K, W, S>,
+    server: &ServerState<'_, K, W, S>,
 ) {
-    room.recorder.go_on_saving(rt, alloc, room.turns);
+    server.recorder.go_on_saving(rt, alloc, server.admission);
 }
 
 /// Starts the thread that goes on with the journal, if there is one, and the one that saves. The answer is false if one of them gets no
@@ -115,15 +115,15 @@ fn start_recorder<
     's,
     E,
     K: Naming + Send + Sync,
-    W: Witness<R> + Sync,
+    W: SessionObserver<R> + Sync,
     S: Keeper + Sync,
     R: Threads + Wait + Clock + Sync,
->(scope: &Scope<'s, E>, rt: &'s R, alloc: Global, room: &'s Room<'_, K, W, S>) -> bool {
-    if !room.recorder.is_kept() {
+>(scope: &Scope<'s, E>, rt: &'s R, alloc: Global, server: &'s ServerState<'_, K, W, S>) -> bool {
+    if !server.recorder.is_kept() {
         return true;
     }
-    scope.spawn(move || go_on(rt, alloc, room)).is_ok()
-        && scope.spawn(move || go_on_saving(rt, alloc, room)).is_ok()
+    scope.spawn(move || go_on(rt, alloc, server)).is_ok()
+        && scope.spawn(move || go_on_saving(rt, alloc, server)).is_ok()
 }
 
 /// Adds the shares of workers that were told to end. `shares` must have room for them. A worker that ended without a share is
@@ -150,26 +150,26 @@ fn ended<K: Naming, R: Threads>(
 /// the workers, and false if accepting failed. If a worker gets no thread, nothing is accepted.
 fn run_workers<
     K: Naming + Send + Sync,
-    P: Porter<R>,
-    W: Witness<R> + Sync,
+    P: AcceptPolicy<R>,
+    W: SessionObserver<R> + Sync,
     S: Keeper + Sync,
     R: Threads + Wait + Clock + Sync,
 >(
     rt: &R,
     alloc: Global,
     acceptor: Acceptor<'_, P, W, S>,
-    room: &Room<'_, K, W, S>,
+    server: &ServerState<'_, K, W, S>,
     workers: Vec<Worker>,
 ) -> (Vec<Ended<K>>, bool) {
-    let shared = room.shared;
+    let shared = server.shared;
     let count = workers.len();
     thread::scope(thread::scope_env(), rt, |scope| -> (Vec<Ended<K>>, bool) {
-        let is_recorded = start_recorder(scope, rt, alloc, room);
+        let is_recorded = start_recorder(scope, rt, alloc, server);
         let handles = start(scope, rt, alloc, shared, workers);
         let is_started = is_recorded && handles.len() == count;
-        let are_accepted = is_started && accept_all(rt, alloc, acceptor, room);
+        let are_accepted = is_started && accept_all(rt, alloc, acceptor, server);
         shared.stop(rt);
-        room.recorder.end(rt);
+        server.recorder.end(rt);
         (handles, are_accepted)
     })
 }
@@ -177,15 +177,15 @@ fn run_workers<
 /// The same, with the shares of all workers in place of their threads.
 fn work<
     K: Naming + Send + Sync,
-    P: Porter<R>,
-    W: Witness<R> + Sync,
+    P: AcceptPolicy<R>,
+    W: SessionObserver<R> + Sync,
     S: Keeper + Sync,
     R: Threads + Wait + Clock + Sync,
 >(
     rt: &R,
     alloc: Global,
     acceptor: Acceptor<'_, P, W, S>,
-    room: &Room<'_, K, W, S>,
+    server: &ServerState<'_, K, W, S>,
     workers: Vec<Worker>,
 ) -> Result<(Vec<WorkerShare<K>>, bool), Refusal>
     ensures all { IfOk result (λ r. vec_len r.0 ≡ vec_len workers) }
@@ -193,7 +193,7 @@ fn work<
 {
     let count = workers.len();
     let shares = Vec::with_capacity(alloc, count)?;
-    let (handles, are_accepted) = run_workers(rt, alloc, acceptor, room, workers);
+    let (handles, are_accepted) = run_workers(rt, alloc, acceptor, server, workers);
     if handles.len() != count {
         return Err(Refusal::NoMemory);
     }
@@ -233,8 +233,8 @@ struct Told {
 fn serve_shared<
     'a,
     K: Naming + Send + Sync,
-    P: Porter<R>,
-    W: Witness<R> + Sync,
+    P: AcceptPolicy<R>,
+    W: SessionObserver<R> + Sync,
     S: Keeper + Sync,
     R: Threads + Wait + Clock + Sync,
 >(
@@ -263,20 +263,20 @@ fn serve_shared<
     let accounts = Mutex::new(Vec::new(alloc));
     let steps = Vec::with_capacity(alloc, workers.len())?;
     let active = AtomicU64::new(0);
-    let turns = Turns::new();
-    let room = Room {
+    let admission = Admission::new();
+    let server = ServerState {
         shared,
         shares: &shares,
         accounts: &accounts,
         active: &active,
-        witness: acceptor.witness,
+        observer: acceptor.observer,
         keeper: acceptor.keeper,
         recorder: &recorder,
-        turns: &turns,
+        admission: &admission,
         start: now(rt),
         workers: workers.len() as u64,
     };
-    let (workers, are_accepted) = work(rt, alloc, acceptor, &room, workers)?;
+    let (workers, are_accepted) = work(rt, alloc, acceptor, &server, workers)?;
     recorder.write_all(rt, alloc);
     drop(recorder);
     let callers = shares.into_inner();
@@ -294,8 +294,8 @@ fn serve_shared<
 /// Serves an image, and settles at the end.
 fn serve<
     K: Naming + Send + Sync,
-    P: Porter<R>,
-    W: Witness<R> + Sync,
+    P: AcceptPolicy<R>,
+    W: SessionObserver<R> + Sync,
     S: Keeper + Sync,
     R: Threads + Wait + Clock + Sync,
 >(
@@ -356,15 +356,15 @@ fn is_served(workers: u32, sessions: Option<u32>) -> bool
 }
 
 /// Serves an image over a socket. Each session has its own thread, at most 64 at a time, and 1 to 16 workers run the actors. A
-/// client beyond 64 gets a refusal and is disconnected, unless the porter says that it is the operator: one of these is let in.
+/// client beyond 64 gets a refusal and is disconnected, unless the policy says that it is the operator: one of these is let in.
 ///
 /// `sessions` is how many sessions are accepted, from 1 to 1,000,000. Then the call waits for their ends, stops the workers, and
 /// answers the image, what each session and each worker has done, and the totals of that: what the image has counted beyond its counts
 /// at the start. With `None`, serving goes on. The image is what a list of events has made of the one that was handed in (`IsRun`).
 ///
-/// The witness is told of each session that ends with a refusal, and the keeper is asked to keep the image where a session wants it
-/// saved, by one session at a time. If the porter lets in nobody any more, the call ends as behind the
-/// last session. If accepting fails and the porter does not try again, it ends so too, and the fault is `ReadFault`.
+/// The observer is told of each session that ends with a refusal, and the keeper is asked to keep the image where a session wants it
+/// saved, by one session at a time. If the policy lets in nobody any more, the call ends as behind the
+/// last session. If accepting fails and the policy does not try again, it ends so too, and the fault is `ReadFault`.
 ///
 /// The listener is let go as soon as no more sessions are accepted, so clients that come while the open ones go on are refused by
 /// the system.
@@ -373,16 +373,16 @@ fn is_served(workers: u32, sessions: Option<u32>) -> bool
 /// the start, or no thread for a worker (room for what the end needs is made as sessions come); `Changed` if the history lacks
 /// something that the callers have done.
 pub fn serve_image<
-    P: Porter<R>,
-    W: Witness<R> + Sync,
+    P: AcceptPolicy<R>,
+    W: SessionObserver<R> + Sync,
     S: Keeper + Sync,
     R: Threads + Wait + Clock + Sync,
 >(
     rt: &R,
     alloc: Global,
     listener: UnixListener,
-    porter: &P,
-    witness: &W,
+    policy: &P,
+    observer: &W,
     keeper: &S,
     workers: u32,
     sessions: Option<u32>,
@@ -409,8 +409,8 @@ pub fn serve_image<
     let acceptor = Acceptor {
         listener,
         sessions,
-        porter,
-        witness,
+        policy,
+        observer,
         keeper,
     };
     serve::<Brand, P, W, S, R>(
@@ -440,14 +440,14 @@ pub fn serve_on<R: Threads + Wait + Clock + Sync>(
     ensures refused { IfErr result (λ e. (e ≡ refusals.BadArguments) ⊎ (e ≡ refusals.NoMemory) ⊎ (e ≡ refusals.ReadFault) ⊎ (e ≡ refusals.Changed)) }
 {
     let image = Image::new(alloc, Settings::DEFAULT)?;
-    let witness = FaultList::of(faults, sessions);
+    let observer = FaultList::of(faults, sessions);
     let Served {
         image,
         accounts,
         totals,
         fault,
     } = serve_image(
-        rt, alloc, listener, &OpenDoor, &witness, &Nobody, workers, sessions, image,
+        rt, alloc, listener, &AcceptAll, &observer, &Nobody, workers, sessions, image,
     )?;
     image.known();
     drop((image, accounts));

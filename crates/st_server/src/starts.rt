@@ -16,13 +16,13 @@ pub fn now<R: Clock>(rt: &R) -> u64 {
 
 /// When a server began, how many sessions are open, and how many workers it has.
 #[derive(Clone, Copy)]
-pub struct Place<'a> {
+pub struct ServerInfo<'a> {
     pub start: u64,
     pub sessions: &'a AtomicU64,
     pub workers: u64,
 }
 
-impl<'a> Place<'a> {
+impl<'a> ServerInfo<'a> {
     /// What is known of the server at this moment, but for its checkpoints.
     pub(crate) fn host(&self) -> Host {
         Host {

@@ -27,7 +27,7 @@ pub(crate) enum Work<T> {
     /// It is to sleep until there have been more moves than these.
     Wait(u64),
     /// A claim of the next ready actor.
-    Turn(T),
+    Claimed(T),
 }
 
 /// Adds an image as the last of those that were seen, if they are known.
@@ -93,14 +93,14 @@ fn takes_more(answer: &Result<u32, Refusal>, is_starved: bool) -> bool
 
 /// Whether a worker goes on with a claim.
 pub(crate) fn goes_on<T>(work: &Work<T>) -> bool {
-    matches!(work, Work::Turn(_))
+    matches!(work, Work::Claimed(_))
 }
 
 impl<K: Naming, M: Mailbox> PoolState<K, M> {
     ghost use Rattle.std.specs.Prelude.{◌≡◌, ◌+◌, ◌≤◌};
     ghost use Rattle.st_image.specs.Commits.{ChecksOut, Settles};
     ghost use Rattle.st_calls.specs.Growth.{amounts, committed};
-    ghost use Rattle.st_pool.specs.Done.{Takes, TurnsOver};
+    ghost use Rattle.st_pool.specs.Done.{CommitsAndClaims, Takes};
 
     /// Hands out a claim.
     #[inline(always)]
@@ -148,7 +148,7 @@ impl<K: Naming, M: Mailbox> PoolState<K, M> {
             return Work::Wait(self.waiting.moves());
         };
         match self.check_out(alloc, actor, leavings) {
-            Ok(pool_claim) => Work::Turn(pool_claim),
+            Ok(pool_claim) => Work::Claimed(pool_claim),
             Err(_) => {
                 self.waiting.note_want(true);
                 Work::Wait(self.waiting.moves())
@@ -186,7 +186,7 @@ impl<K: Naming, M: Mailbox> PoolState<K, M> {
 
     /// Commits a claim for a worker, and finds what the worker does next if it takes more work. Otherwise it is to wait.
     #[inline(always)]
-    pub(crate) fn turn_over(
+    pub(crate) fn commit_and_claim(
         &mut self,
         alloc: Global,
         mine: &mut WorkerShare<K>,
@@ -195,7 +195,7 @@ impl<K: Naming, M: Mailbox> PoolState<K, M> {
         is_short: bool,
         leavings: &mut Leavings,
     ) -> (Result<u32, Refusal>, Work<PoolClaim<K>>)
-        ensures turns { TurnsOver self.old.image pool_claim is_starved result.0 result.1 self.new.image }
+        ensures turns { CommitsAndClaims self.old.image pool_claim is_starved result.0 result.1 self.new.image }
         ensures books { self.new.books ≡ record self.old.books { steps = self.old.books.steps + committed result.0 } }
         ensures share { mine.new ≡ mine.old + committed result.0 }
         ensures within { K.start.steps + mine.old ≤ (amounts self.old.image).steps }

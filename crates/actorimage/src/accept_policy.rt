@@ -1,7 +1,7 @@
-//! Who stands at the door of the program's server, and who is told of its sessions' ends.
+//! Which clients the program's server lets in, and who is told of its sessions' ends.
 use st_classes::refusals::Refusal;
 use st_disk::socket_files::SocketFile;
-use st_server::porters::{FaultList, Porter, Witness};
+use st_server::accept_policy::{AcceptPolicy, FaultList, SessionObserver};
 use st_wire::names::refusal_name;
 use std::fs::Files;
 use std::io::Error;
@@ -23,15 +23,15 @@ const PAUSE: u64 = 100;
 
 /// Lets clients in while the socket's file is at its path. It waits where the system is short of something.
 #[derive(Drop)]
-pub struct Doorkeeper<'a> {
+pub struct SocketPolicy<'a> {
     file: SocketFile<'a>,
     /// Whether it was said that something is short.
     has_said: AtomicBool,
 }
 
-impl<'a> Doorkeeper<'a> {
-    pub fn new(file: SocketFile<'a>) -> Doorkeeper<'a> {
-        Doorkeeper {
+impl<'a> SocketPolicy<'a> {
+    pub fn new(file: SocketFile<'a>) -> SocketPolicy<'a> {
+        SocketPolicy {
             file,
             has_said: AtomicBool::new(false),
         }
@@ -60,7 +60,7 @@ impl<'a> Reporter<'a> {
     }
 }
 
-impl<'a, R: Wait + Eprint> Witness<R> for Reporter<'a> {
+impl<'a, R: Wait + Eprint> SessionObserver<R> for Reporter<'a> {
     fn ended(&self, rt: &R, refusal: Refusal) {
         self.list.ended(rt, refusal);
         if !self.is_verbose {
@@ -82,7 +82,7 @@ fn is_shortage(error: &Error) -> bool {
     }
 }
 
-impl<'a, R: Files + Eprint + Clock> Porter<R> for Doorkeeper<'a> {
+impl<'a, R: Files + Eprint + Clock> AcceptPolicy<R> for SocketPolicy<'a> {
     fn is_open(&self, rt: &R) -> bool {
         self.file.is_there(rt)
     }

@@ -1,4 +1,4 @@
-//! The turns that sessions take with what none of them needs alone, but many at once would take from all others.
+//! How many sessions at a time may have what many at once would take from all others.
 use std::sync::atomic::{AtomicU64, Ordering};
 use std::sync::{Mutex, MutexGuard, Wait};
 
@@ -6,30 +6,30 @@ use std::sync::{Mutex, MutexGuard, Wait};
 /// processors to others.
 const QUERIES: usize = 2;
 
-/// A server's turns: one session at a time has its image saved, and few answer queries.
+/// One session at a time has the image saved, and few answer queries.
 #[derive(Drop)]
-pub struct Turns {
+pub struct Admission {
     save: Mutex<()>,
     queries: [Mutex<()>; QUERIES],
     /// How many queries have been asked.
     asked: AtomicU64,
 }
 
-impl Turns {
-    pub fn new() -> Turns {
-        Turns {
+impl Admission {
+    pub fn new() -> Admission {
+        Admission {
             save: Mutex::new(()),
             queries: [Mutex::new(()), Mutex::new(())],
             asked: AtomicU64::new(0),
         }
     }
 
-    /// Waits for the turn to have the image saved.
+    /// Waits until the image may be saved for a session.
     pub(crate) fn save<R: Wait>(&self, rt: &R) -> MutexGuard<'_, ()> {
         self.save.lock(rt)
     }
 
-    /// Waits for a turn to answer a query.
+    /// Waits until a query may be answered.
     pub(crate) fn query<R: Wait>(&self, rt: &R) -> MutexGuard<'_, ()> {
         let number = self.asked.fetch_add(1, Ordering::SeqCst);
         self.queries[number as usize % QUERIES].lock(rt)

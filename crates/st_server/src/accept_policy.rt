@@ -1,12 +1,12 @@
-//! Who stands at a server's door, and who is told of its sessions' ends.
+//! Which clients a server lets in, and who is told of its sessions' ends.
 use boxcar::Vec as Faults;
 use st_classes::refusals::Refusal;
 use std::io;
 use std::os::unix::net::UnixStream;
 use std::sync::Wait;
 
-/// Who stands at a server's door, and is asked whether clients are let in. `R` is the runtime. One thread asks.
-pub trait Porter<R> {
+/// Says whether clients are let in. `R` is the runtime. One thread asks.
+pub trait AcceptPolicy<R> {
     /// Whether clients are let in still. It is asked each time that one has connected or accepting has failed.
     fn is_open(&self, rt: &R) -> bool;
 
@@ -18,15 +18,15 @@ pub trait Porter<R> {
 }
 
 /// Who is told of sessions that end by a refusal. The threads of the sessions tell it.
-pub trait Witness<R> {
+pub trait SessionObserver<R> {
     /// A session has ended by a refusal.
     fn ended(&self, rt: &R, refusal: Refusal);
 }
 
-/// Nobody: all clients are let in, until accepting fails.
-pub struct OpenDoor;
+/// All clients are let in, until accepting fails.
+pub struct AcceptAll;
 
-impl<R> Porter<R> for OpenDoor {
+impl<R> AcceptPolicy<R> for AcceptAll {
     fn is_open(&self, _rt: &R) -> bool {
         true
     }
@@ -55,7 +55,7 @@ impl<'a> FaultList<'a> {
     }
 }
 
-impl<'a, R: Wait> Witness<R> for FaultList<'a> {
+impl<'a, R: Wait> SessionObserver<R> for FaultList<'a> {
     fn ended(&self, rt: &R, refusal: Refusal) {
         if let Some(faults) = self.list {
             let _ = faults.push(rt, refusal);

@@ -6,7 +6,6 @@ use Rattle.std.proofs.lemmas.Option.{slice_get_within}
 use Rattle.st_classes.specs.declared.edits.Edit.{Edit}
 use Rattle.st_classes.specs.declared.edits.Edit.TheVariants.{Define, Install, Remove, Reparent}
 use Rattle.st_classes.specs.declared.refusals.Refusal.TheVariants.{UnknownClass}
-use Rattle.st_classes.specs.declared.values.ActorId.{ActorId}
 use Rattle.st_classes.specs.Classes.{is_class}
 use Rattle.st_classes.specs.EditLists.{AllSuit}
 use Rattle.st_classes.specs.EditRules.{edit_rules}
@@ -22,7 +21,7 @@ use Rattle.st_image.specs.Replay.{next, with_new}
 use Rattle.st_image.specs.WorldInvariant.{IsWorld}
 use Rattle.st_image.specs.Worlds.{Constants, World, WorldActor}
 use Rattle.st_image.proofs.Deliveries.{let_through}
-use Rattle.st_image.proofs.PostFacts.{may_post, none_from, rules_of}
+use Rattle.st_image.proofs.PostFacts.{may_post, none_from}
 use Rattle.st_image.proofs.Reloading.{removed_text}
 use Rattle.st_file.specs.Named.{MessageIsNamed}
 use Rattle.st_file.proofs.NamedParts.{named_class, named_message}

@@ -1,5 +1,5 @@
 -- What is put into a new writer, and finished, is written.
-use Rattle.std.proofs.Common.{arith, ◌≡◌, ℕ, Bool, true, false, List, [], Option, None, Some, Result, Ok, Err, append-nil, ap, refl, subst, sym}
+use Rattle.std.proofs.Common.{arith, ◌≡◌, ℕ, Bool, true, false, List, [], Option, None, Some, Result, Ok, Err, append-nil, refl, subst, sym}
 use Rattle.std.specs.Prelude.{OnOk}
 use Rattle.std.specs.Io.KnownBytes.{Appends}
 use Rattle.st_file.specs.declared.saving.text_writer.TextWriter.{TextWriter}
@@ -30,3 +30,8 @@ puts_nothing a p = record {
   };
   utf8 = ([], (refl, refl));
 }
+
+-- what holds, holds where a result is well
+pub on_any : {T E : Type 0} (r : Result T E) (P : Type 0) → P → OnOk r P
+on_any (Ok v) P h = h
+on_any (Err e) P h = tt

@@ -1,5 +1,5 @@
 -- What is told of an image from time to time tells what happened to it.
-use Rattle.std.proofs.Common.{◌≡◌, ℕ, List, [], ◌∷◌, ◌++◌, Option, Some, option_and_then, map, refl, sym, ap, subst, ◌∙◌, append_assoc, append-nil}
+use Rattle.std.proofs.Common.{◌≡◌, ℕ, List, [], ◌∷◌, ◌++◌, Some, map, refl, sym, ap, subst, ◌∙◌, append_assoc, append-nil}
 use Rattle.std.specs.Prelude.{All}
 use Rattle.std.specs.Str.{IsUtf8}
 use Rattle.std.proofs.lemmas.List.{map-append}
@@ -246,7 +246,7 @@ module _ (c : Constants) (more : List (List ℕ)) (edits later : List Edit) (sou
       ∙ ap (λ (v : World). at_place p.names v ns) there
       ∙ ap (λ (ms : List Mark). at_place p.names p.world (ms ++ ns)) (sym none)
 
-  pub told_on : (es : List Entry) (lines : List (List ℕ)) (p : Place) (fs : List Entry) (rest : List (List ℕ)) → Before c p es names w → Told c p es lines
+  told_on : (es : List Entry) (lines : List (List ℕ)) (p : Place) (fs : List Entry) (rest : List (List ℕ)) → Before c p es names w → Told c p es lines
       → Told (named_more c more) (at_place names w ns) fs rest → Told (named_more c more) (further ns p) (es ++ fs) (lines ++ rest)
   told_on [] [] p fs rest b told behind = subst (λ (q : Place). Told (named_more c more) q fs rest) (at_end p b told) behind
   told_on [] (line ∷ lines) p fs rest b told behind = absurd told
@@ -286,8 +286,8 @@ told_more i lines names more w ms v edits lawful t g =
     let marks = map told_mark ms in
     let named = map entry.Name more in
     let new : Told k (at_place names w ms) (telling more ms) (map (entry_text k.names edits) named ++ map (entry_text k.names edits) marks) =
-    told_names k edits g.sound g.names more names w ms marks (map (entry_text k.names edits) marks) (all_front (WasWritten k.names edits) named marks g.written)
-    (told_marks k edits g.sound g.names ms w v g.later.0 (names_keep c more w so_far.1) g.led g.later.1
+    told_names k edits g.sound g.are_names more names w ms marks (map (entry_text k.names edits) marks) (all_front (WasWritten k.names edits) named marks g.written)
+    (told_marks k edits g.sound g.are_names ms w v g.later.0 (names_keep c more w so_far.1) g.led g.later.1
     (all_back EntryIsInRange named marks g.in_range) (all_back (WasWritten k.names edits) named marks g.written)) in
     let lines_are : map (entry_text k.names edits) named ++ map (entry_text k.names edits) marks ≡ lines_told k.names edits (telling more ms) =
     sym (map-append (entry_text k.names edits) named marks) ∙ sym (each_line k.names edits (telling more ms)) in

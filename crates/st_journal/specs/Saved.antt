@@ -1,5 +1,5 @@
 -- What a saved image and its journal lead to, and that it stays what it was while a save replaces both.
-use Rattle.std.specs.Prelude.{◌≡◌, ◌⊎◌, ℕ, ◌≤◌, List, [], ◌∷◌, ◌++◌, length, drop, take, true, Option, Some, None, if◌then◌else◌, option_and_then}
+use Rattle.std.specs.Prelude.{◌≡◌, ◌⊎◌, ℕ, ◌≤◌, List, ◌∷◌, ◌++◌, length, drop, take, true, Option, Some, None, if◌then◌else◌, option_and_then}
 use Rattle.std.specs.Str.{bytes_eq}
 use Rattle.st_image.specs.Parts.{rebase}
 use Rattle.st_image.specs.Worlds.{Constants, World}

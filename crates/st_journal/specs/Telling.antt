@@ -1,5 +1,5 @@
 -- What is told of an image from time to time, as lines, and that this tells what happened to it.
-use Rattle.std.specs.Prelude.{◌≡◌, ℕ, List, [], ◌∷◌, ◌++◌, All, Some, map}
+use Rattle.std.specs.Prelude.{◌≡◌, ℕ, List, [], ◌++◌, All, Some, map}
 use Rattle.std.specs.Str.{IsUtf8}
 use Rattle.st_classes.specs.declared.edits.Edit.{Edit}
 use Rattle.st_classes.specs.EditLists.{AllSound, Begins}
@@ -35,7 +35,7 @@ WasWritten names edits e = EntryIsText e × IsUtf8 (entry_text names edits e)
 -- lines are written has all edits that there were, and perhaps others behind them.
 pub record WentOn (i : ImageView) (names more : List (List ℕ)) (w : World) (ms : List Mark) (v : World) (edits : List Edit) : Type 0 where
   pub led : after_all (record { names = names ++ more; capacity = i.capacity }) w ms ≡ Some v
-  pub names : AreNames (names ++ more)
+  pub are_names : AreNames (names ++ more)
   pub compiled : AllCompiled (names ++ more) v.edits
   pub later : Begins v.edits edits
   pub sound : AllSound edits

@@ -20,6 +20,7 @@ ghost use Rattle.st_file.specs.TextWriters.{Puts};
 ghost use Rattle.st_journal.specs.EntryForms.{CanBeTold, EntryIsText};
 ghost use Rattle.st_journal.specs.EntryJson.{entry_json, posted_json, ran_json};
 ghost use Rattle.st_journal.specs.EntryLines.{SaysEntry, entries_text, entry_line, entry_text};
+ghost use Rattle.st_journal.specs.Telling.{WasWritten};
 ghost use Rattle.st_log.specs.Lines.{IsLine};
 
 use crate::entries::Entry;
@@ -134,7 +135,8 @@ pub fn write_lines<O: Output>(
     entries: &[Entry],
     output: &mut O,
 ) -> Result<u64, WriteFailed>
-    ensures { OnOk result (Appends (O.contents output.old) (O.contents output.new) (entries_text names.now version.now entries.now)) }
+    ensures text { OnOk result (Appends (O.contents output.old) (O.contents output.new) (entries_text names.now version.now entries.now)) }
+    ensures written { OnOk result (All (WasWritten names.now version.now) entries.now) }
 {
     let mut writer = TextWriter::new(alloc);
     for entry in entries {

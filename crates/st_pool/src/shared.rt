@@ -38,7 +38,7 @@ const LOOKS_FOR_END: u32 = 32;
 
 /// How often a worker that found nothing looks, at long intervals, whether there is something now before it sleeps. The next message of a
 /// client who waits for each reply comes sooner than a thread that sleeps would be woken.
-const LOOKS_FOR_WORK: u32 = 128;
+const LOOKS_FOR_WORK: u32 = 48;
 
 /// Lets some time pass.
 #[inline]

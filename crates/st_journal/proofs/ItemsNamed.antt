@@ -1,5 +1,5 @@
 -- The classes and selectors of what led on from a world are there.
-use Rattle.std.proofs.Common.{◌≡◌, [], ◌∷◌, Option, Some, None, true, not, slice_get, append-nil, sym, subst, refl}
+use Rattle.std.proofs.Common.{◌≡◌, [], Option, Some, None, true, not, slice_get, append-nil, sym, subst, refl}
 use Rattle.std.specs.Prelude.{is_none}
 use Rattle.std.proofs.lemmas.Bool.{and_parts, not-false}
 use Rattle.std.proofs.lemmas.Option.{slice_get_within}

@@ -29,7 +29,7 @@ use Rattle.st_journal.proofs.SaidLines.{reading_leads}
 -- ---- where an image stands
 
 -- the constants of a run with all names that there will be
-abbrev pub with_all : List (List ℕ) → ℕ → Constants
+abbrev with_all : List (List ℕ) → ℕ → Constants
 with_all names n = record { names = names; capacity = n }
 
 -- an image has these names, this world and this capacity

@@ -11,7 +11,6 @@ use Rattle.st_classes.specs.declared.edits.Edit.TheVariants.{Define, Install, Re
 use Rattle.st_classes.specs.EditLists.{AllSound, AreLawful}
 use Rattle.st_classes.specs.Names.{AreNames}
 use Rattle.st_wire.proofs.Lines.{value-line}
-use Rattle.st_image.specs.declared.items.Item.{Item}
 use Rattle.st_image.specs.declared.items.Item.TheVariants.{Edited, Created, Posted, Closed, Begun, Ran}
 use Rattle.st_image.specs.CompiledEdits.{AllCompiled}
 use Rattle.st_image.specs.Images.{ImageView, constants, world}
@@ -40,7 +39,7 @@ use Rattle.st_journal.proofs.OneLine.{entry_is_open}
 use Rattle.st_journal.proofs.OneText.{front_line}
 use Rattle.st_journal.proofs.Recovered.{one_mark}
 use Rattle.st_journal.proofs.TextsAgain.{entry_text_again}
-use Rattle.st_journal.proofs.WhatTells.{marks_behind, names_first, no_name}
+use Rattle.st_journal.proofs.WhatTells.{marks_behind, marks_others, marks_unnamed, names_first, told_items}
 
 -- ---- entries one behind the other
 
@@ -71,16 +70,6 @@ others_both (entry.Closed actor ∷ es) fs = ap (λ (xs : List Entry). entry.Clo
 others_both (entry.Begun actor ∷ es) fs = ap (λ (xs : List Entry). entry.Begun actor ∷ xs) (others_both es fs)
 others_both (entry.Ran actor steps ∷ es) fs = ap (λ (xs : List Entry). entry.Ran actor steps ∷ xs) (others_both es fs)
 others_both (entry.Checkpoint ∷ es) fs = ap (λ (xs : List Entry). entry.Checkpoint ∷ xs) (others_both es fs)
-
-marks_unnamed : (ms : List Mark) → names_in (map told_mark ms) ≡ []
-marks_unnamed [] = refl
-marks_unnamed (did x ∷ ms) = (no_name x (map told_mark ms)).0 ∙ marks_unnamed ms
-marks_unnamed (emptied ∷ ms) = marks_unnamed ms
-
-marks_others : (ms : List Mark) → but_names (map told_mark ms) ≡ map told_mark ms
-marks_others [] = refl
-marks_others (did x ∷ ms) = (no_name x (map told_mark ms)).1 ∙ ap (λ (es : List Entry). told x ∷ es) (marks_others ms)
-marks_others (emptied ∷ ms) = ap (λ (es : List Entry). entry.Checkpoint ∷ es) (marks_others ms)
 
 tells_both : (here names more : List (List ℕ)) (es : List Entry) (ms ns : List Mark) → Tells here es ms names → Tells here (es ++ telling more ns) (ms ++ ns) (names ++ more)
 tells_both here names more es ms ns t =
@@ -256,10 +245,6 @@ module _ (c : Constants) (more : List (List ℕ)) (edits later : List Edit) (sou
       (told.0, further ns told.1, on.0, told_on es lines told.1 fs rest on.1 told.3 behind)
 
 -- ---- an image
-
-told_items : (h : List Item) → map told_mark (map did h) ≡ map told h
-told_items [] = refl
-told_items (x ∷ h) = ap (λ (es : List Entry). told x ∷ es) (told_items h)
 
 told_nothing : (i : ImageView) → AllCompiled i.names (world i).edits → IsToldBy i [] i.names (world i)
 told_nothing i compiled = record {

@@ -7,11 +7,11 @@ use Rattle.st_image.specs.declared.items.Item.TheVariants.{Edited, Created, Post
 use Rattle.st_journal.specs.declared.entries.Entry.{Entry}
 use Rattle.st_journal.specs.declared.entries.Entry.TheVariants as entry
 use Rattle.st_journal.specs.Entries.{told}
-use Rattle.st_journal.specs.Marks.{did}
+use Rattle.st_journal.specs.Marks.{Mark, did, emptied}
 use Rattle.st_journal.specs.Recovery.{TellingTells, but_names, names_in, told_mark}
 
 -- an item is told by no name
-pub no_name : (x : Item) (es : List Entry) → (names_in (told x ∷ es) ≡ names_in es) × (but_names (told x ∷ es) ≡ told x ∷ but_names es)
+no_name : (x : Item) (es : List Entry) → (names_in (told x ∷ es) ≡ names_in es) × (but_names (told x ∷ es) ≡ told x ∷ but_names es)
 no_name (Edited (Define name parent slots)) es = (refl, refl)
 no_name (Edited (Install c m)) es = (refl, refl)
 no_name (Edited (Remove c s)) es = (refl, refl)
@@ -22,13 +22,26 @@ no_name (Closed a) es = (refl, refl)
 no_name (Begun a) es = (refl, refl)
 no_name (Ran a n) es = (refl, refl)
 
-pub items_named : (h : List Item) → names_in (map told h) ≡ []
-items_named [] = refl
-items_named (x ∷ h) = (no_name x (map told h)).0 ∙ items_named h
+-- items and checkpoints are told by no name, each by one entry
+pub marks_unnamed : (ms : List Mark) → names_in (map told_mark ms) ≡ []
+marks_unnamed [] = refl
+marks_unnamed (did x ∷ ms) = (no_name x (map told_mark ms)).0 ∙ marks_unnamed ms
+marks_unnamed (emptied ∷ ms) = marks_unnamed ms
 
-pub items_marked : (h : List Item) → but_names (map told h) ≡ map told_mark (map did h)
-items_marked [] = refl
-items_marked (x ∷ h) = (no_name x (map told h)).1 ∙ ap (λ (es : List Entry). told x ∷ es) (items_marked h)
+pub marks_others : (ms : List Mark) → but_names (map told_mark ms) ≡ map told_mark ms
+marks_others [] = refl
+marks_others (did x ∷ ms) = (no_name x (map told_mark ms)).1 ∙ ap (λ (es : List Entry). told x ∷ es) (marks_others ms)
+marks_others (emptied ∷ ms) = ap (λ (es : List Entry). entry.Checkpoint ∷ es) (marks_others ms)
+
+pub told_items : (h : List Item) → map told_mark (map did h) ≡ map told h
+told_items [] = refl
+told_items (x ∷ h) = ap (λ (es : List Entry). told x ∷ es) (told_items h)
+
+items_named : (h : List Item) → names_in (map told h) ≡ []
+items_named h = ap names_in (sym (told_items h)) ∙ marks_unnamed (map did h)
+
+items_marked : (h : List Item) → but_names (map told h) ≡ map told_mark (map did h)
+items_marked h = ap but_names (sym (told_items h)) ∙ marks_others (map did h)
 
 pub names_first : (ns : List (List ℕ)) (es : List Entry) → names_in (map entry.Name ns ++ es) ≡ ns ++ names_in es
 names_first [] es = refl

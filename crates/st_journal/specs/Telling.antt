@@ -33,7 +33,8 @@ WasWritten names edits e = EntryIsText e × IsUtf8 (entry_text names edits e)
 
 -- Items and checkpoints led from a world to another one, with some more names. They are told then or later: the class table by which their
 -- lines are written has all edits that there were, and perhaps others behind them.
-pub record WentOn (i : ImageView) (names more : List (List ℕ)) (w : World) (ms : List Mark) (v : World) (edits : List Edit) : Type 0 where
+pub record WentOn (i : ImageView) (names more : List (List ℕ)) (w : World) (ms : List Mark) (v : World)
+    (edits : List Edit) : Type 0 where
   pub led : after_all (record { names = names ++ more; capacity = i.capacity }) w ms ≡ Some v
   pub are_names : AreNames (names ++ more)
   pub compiled : AllCompiled (names ++ more) v.edits
@@ -47,7 +48,7 @@ pub record WentOn (i : ImageView) (names more : List (List ℕ)) (w : World) (ms
 pub record TellingGoesOn : Type 0 where
   pub items : (h : List Item) → map told_mark (map did h) ≡ map told h
   pub nothing : (i : ImageView) → AllCompiled i.names (world i).edits → IsToldBy i [] i.names (world i)
-  pub more : (i : ImageView) (lines : List (List ℕ)) (names more : List (List ℕ)) (w : World) (ms : List Mark) (v : World) (edits : List Edit)
+  pub more : (i : ImageView) (lines names more : List (List ℕ)) (w : World) (ms : List Mark) (v : World) (edits : List Edit)
       → IsLawful i
       → IsToldBy i lines names w
       → WentOn i names more w ms v edits

@@ -77,7 +77,8 @@ pub fn told_is_text()
 
 /// What is told of an image from time to time, line by line, tells what happened to it: the names, the items and the checkpoints that came
 /// since, as [`crate::telling::tell_since`] tells them and [`crate::lines::write_lines`] writes them, also if more has happened by then.
-/// Nothing is asked of them but what is so: that they led from where the lines before had come, and that their numbers are within bounds.
+/// What is asked holds of an image: that they led on from where the lines before had come, that the names are a table's and the methods are
+/// sound and compiled from their sources, that numbers are within the bounds of their types, and that the lines could be written.
 #[tactic(auto, using(crate::proofs::ToldOn::telling_goes_on))]
 pub fn telling_goes_on()
     ensures { TellingGoesOn }

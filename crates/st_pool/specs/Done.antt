@@ -82,7 +82,8 @@ takes_more starved (Err e) = true
 
 -- A hold at the end of a quantum. First the claim is settled; in the image that this leaves the worker finds what is next, where it
 -- takes more. Else it is to wait, and nothing else has changed
-pub record CommitsAndClaims (i : ImageView) (c : ClaimView) (starved : Bool) (result : Result ℕ Refusal) (work : Work ClaimView) (j : ImageView) : Type 0 where
+pub record CommitsAndClaims (i : ImageView) (c : ClaimView) (starved : Bool) (result : Result ℕ Refusal)
+    (work : Work ClaimView) (j : ImageView) : Type 0 where
   pub between : ImageView
   pub settles : Settles i c result between
   pub next : MatchBool (takes_more starved result) (Takes between work j) ((moves : ℕ) × (work ≡ Wait moves) × (j ≡ between))

@@ -1,7 +1,6 @@
-use Rattle.std.proofs.Common.{arith, ◌≡◌, ◌∙◌, ◌-◌, ℕ, List, Some, ap, subst, suc, sym}
+use Rattle.std.proofs.Common.{arith, ◌≡◌, ◌∙◌, ◌-◌, ℕ, List, Some, ap, suc, sym}
 use Rattle.st_classes.specs.declared.values.ActorId.{ActorId}
 use Rattle.st_classes.specs.declared.edits.Edit.{Edit}
-use Rattle.st_turn.specs.declared.body.Body.{Body}
 use Rattle.st_turn.specs.Steps.{own_steps}
 use Rattle.st_turn.proofs.Keeping.{step_fits_some}
 use Rattle.st_turn.proofs.LastSteps.{WasTaken, was_taken}

@@ -35,6 +35,7 @@ pub struct Sent {
 
 /// Makes the body that the steps change, if there is none yet. Until a step is taken it is a copy of the body before. It takes the
 /// memory of a spare body, if there is one.
+#[inline(always)]
 pub(crate) fn make_after(
     alloc: Global,
     before: &Body,
@@ -44,9 +45,25 @@ pub(crate) fn make_after(
     ensures ok { OnOk result (after.new ≡ Some (unwrap_or after.old before.now)) }
     ensures same { unwrap_or after.new before.now ≡ unwrap_or after.old before.now }
 {
-    if after.is_none() {
-        *after = Some(before.copy_into(alloc, spare.take())?);
+    if after.is_some() {
+        return Ok(());
     }
+    make_copy(alloc, before, after, spare)
+}
+
+/// The same where there is none. This is a function apart, since few calls come here.
+#[inline(never)]
+fn make_copy(
+    alloc: Global,
+    before: &Body,
+    after: &mut Option<Body>,
+    spare: &mut Option<Body>,
+) -> Result<(), AllocError>
+    requires { after.old ≡ None }
+    ensures ok { OnOk result (after.new ≡ Some before.now) }
+    ensures same { unwrap_or after.new before.now ≡ before.now }
+{
+    *after = Some(before.copy_into(alloc, spare.take())?);
     Ok(())
 }
 

@@ -85,6 +85,16 @@ pub struct ClaimParts {
     pub stamp: u64,
 }
 
+/// Drops a body, if there is one. Mostly there is none, and to take it would move its whole room.
+#[inline(always)]
+fn let_go(body: &mut Option<Body>)
+    ensures { body.new ≡ None }
+{
+    if body.is_some() {
+        drop(body.take());
+    }
+}
+
 /// Makes the parts those of a claim of no steps. They keep their memory. The token that they had is returned.
 fn begin_again(
     parts: &mut ClaimParts,
@@ -102,10 +112,10 @@ fn begin_again(
     ensures stamp { parts.new.stamp ≡ stamp }
     ensures twin { parts.new.twin ≡ None }
 {
-    let before = std::mem::replace(&mut parts.before, body);
-    drop(parts.spare.replace(before));
-    drop(parts.after.take());
-    drop(parts.twin.take());
+    let_go(&mut parts.spare);
+    parts.spare = Some(std::mem::replace(&mut parts.before, body));
+    let_go(&mut parts.after);
+    let_go(&mut parts.twin);
     parts.actor = actor;
     parts.steps = 0;
     parts.sends.clear();

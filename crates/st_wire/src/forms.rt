@@ -10,8 +10,8 @@ use crate::tokens::{actor_of, copied};
 use std::alloc::Global;
 
 /// The command, if it is of a form that is read from tokens: `post`, `run`, `outcome`, `wait`, `method` or `close`.
-pub(crate) fn command_of(alloc: Global, found: Found<'_>) -> Result<Command, Miss>
-    ensures { IfOk result (IsOfForm command_in found.entry) }
+pub(crate) fn command_of(alloc: Global, found: &mut Found<'_>) -> Result<Command, Miss>
+    ensures { IfOk result (IsOfForm command_in found.old) }
 {
     match found.cmd {
         Some("post") => post(alloc, found),
@@ -24,8 +24,8 @@ pub(crate) fn command_of(alloc: Global, found: Found<'_>) -> Result<Command, Mis
     }
 }
 
-fn post(alloc: Global, found: Found<'_>) -> Result<Command, Miss>
-    ensures { IfOk result (IsOfForm post_in found.entry) }
+fn post(alloc: Global, found: &mut Found<'_>) -> Result<Command, Miss>
+    ensures { IfOk result (IsOfForm post_in found.old) }
 {
     let (6, Some(actor), Some(_), Some(selector), Some(sender), Some(seq)) = (
         found.count,
@@ -37,7 +37,7 @@ fn post(alloc: Global, found: Found<'_>) -> Result<Command, Miss>
     ) else {
         return Err(Miss::Undecided);
     };
-    let Some(args) = found.args else {
+    let Some(args) = found.args.take() else {
         return Err(Miss::Undecided);
     };
     if sender > 65_535 {
@@ -52,15 +52,15 @@ fn post(alloc: Global, found: Found<'_>) -> Result<Command, Miss>
     })
 }
 
-fn close(found: Found<'_>) -> Result<Command, Miss>
-    ensures { IfOk result (IsOfForm close_in found.entry) }
+fn close(found: &Found<'_>) -> Result<Command, Miss>
+    ensures { IfOk result (IsOfForm close_in found.now) }
 {
     let Found {
         count: 2,
         actor: Some(actor),
         cmd: Some(_),
         ..
-    } = found
+    } = *found
     else {
         return Err(Miss::Undecided);
     };
@@ -69,10 +69,10 @@ fn close(found: Found<'_>) -> Result<Command, Miss>
     })
 }
 
-fn run(found: Found<'_>) -> Result<Command, Miss>
-    ensures { IfOk result (IsOfForm run_in found.entry) }
+fn run(found: &Found<'_>) -> Result<Command, Miss>
+    ensures { IfOk result (IsOfForm run_in found.now) }
 {
-    let quanta = match found {
+    let quanta = match *found {
         Found {
             count: 1,
             cmd: Some(_),
@@ -89,8 +89,8 @@ fn run(found: Found<'_>) -> Result<Command, Miss>
     Ok(Command::Run { quanta })
 }
 
-fn outcome(found: Found<'_>) -> Result<Command, Miss>
-    ensures { IfOk result (IsOfForm outcome_in found.entry) }
+fn outcome(found: &Found<'_>) -> Result<Command, Miss>
+    ensures { IfOk result (IsOfForm outcome_in found.now) }
 {
     let Found {
         count: 3,
@@ -98,7 +98,7 @@ fn outcome(found: Found<'_>) -> Result<Command, Miss>
         cmd: Some(_),
         turn: Some(turn),
         ..
-    } = found
+    } = *found
     else {
         return Err(Miss::Undecided);
     };
@@ -108,8 +108,8 @@ fn outcome(found: Found<'_>) -> Result<Command, Miss>
     })
 }
 
-fn wait(alloc: Global, found: Found<'_>) -> Result<Command, Miss>
-    ensures { IfOk result (IsOfForm wait_in found.entry) }
+fn wait(alloc: Global, found: &Found<'_>) -> Result<Command, Miss>
+    ensures { IfOk result (IsOfForm wait_in found.now) }
 {
     let Found {
         count: 5,
@@ -119,7 +119,7 @@ fn wait(alloc: Global, found: Found<'_>) -> Result<Command, Miss>
         ms: Some(ms),
         turn: Some(turn),
         ..
-    } = found
+    } = *found
     else {
         return Err(Miss::Undecided);
     };
@@ -134,8 +134,8 @@ fn wait(alloc: Global, found: Found<'_>) -> Result<Command, Miss>
     })
 }
 
-fn method(alloc: Global, found: Found<'_>) -> Result<Command, Miss>
-    ensures { IfOk result (IsOfForm method_in found.entry) }
+fn method(alloc: Global, found: &Found<'_>) -> Result<Command, Miss>
+    ensures { IfOk result (IsOfForm method_in found.now) }
 {
     let Found {
         count: 3,
@@ -143,7 +143,7 @@ fn method(alloc: Global, found: Found<'_>) -> Result<Command, Miss>
         cmd: Some(_),
         source: Some(source),
         ..
-    } = found
+    } = *found
     else {
         return Err(Miss::Undecided);
     };

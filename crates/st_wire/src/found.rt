@@ -46,7 +46,7 @@ fn keep<T: Drop>(place: &mut Option<T>, part: T) -> Result<(), Miss>
 
 impl<'a> Found<'a> {
     /// No keys yet.
-    fn new() -> Found<'a>
+    pub(crate) fn new() -> Found<'a>
         ensures { IsFoundIn result no_members }
     {
         Found {
@@ -93,14 +93,14 @@ impl<'a> Found<'a> {
         }
     }
 
-    /// Reads the members of an object, after its opening brace.
-    pub(crate) fn read_all(alloc: Global, reader: &mut Reader<'a>) -> Result<Found<'a>, Miss>
-        ensures { IfOk result (λ found. (ms : Members) × BeginsWithMembers 126 reader.old ms reader.new × IsFoundIn found ms) }
+    /// Reads the members of an object, after its opening brace, where nothing was found before.
+    pub(crate) fn read_all(&mut self, alloc: Global, reader: &mut Reader<'a>) -> Result<(), Miss>
+        requires { IsFoundIn self.old no_members }
+        ensures { OnOk result ((ms : Members) × BeginsWithMembers 126 reader.old ms reader.new × IsFoundIn self.new ms) }
     {
-        let mut found = Found::new();
         'members: while let Some(key) = reader.next_key()? {
-            found.read(alloc, reader, key)?;
+            self.read(alloc, reader, key)?;
         }
-        Ok(found)
+        Ok(())
     }
 }

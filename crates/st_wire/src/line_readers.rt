@@ -56,9 +56,10 @@ fn read_tokens(alloc: Global, scratch: &mut Scratch, line: &[u8]) -> Result<Comm
     let Some(Token::BeginObject) = reader.next() else {
         return Err(Miss::Undecided);
     };
-    let found = Found::read_all(alloc, &mut reader)?;
+    let mut found = Found::new();
+    found.read_all(alloc, &mut reader)?;
     if reader.next().is_some() {
         return Err(Miss::Undecided);
     }
-    forms::command_of(alloc, found)
+    forms::command_of(alloc, &mut found)
 }

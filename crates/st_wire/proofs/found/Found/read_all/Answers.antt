@@ -6,7 +6,7 @@ use Rattle.st_wire.proofs.Fronts.{members_begin, member_goes_on, members_close}
 use Rattle.st_wire.proofs.found.Found.read_all.Goals as goal
 
 pub members-init : goal.members-init
-members-init c = (_, omega arith, no_members, c.new-found.ensures, members_begin 126 c.args.reader.now)
+members-init c = (_, omega arith, no_members, c.requires, members_begin 126 c.args.reader.now)
 
 pub members-preserved : goal.members-preserved
 members-preserved c =

@@ -174,6 +174,7 @@ fn run_part<M: Mailbox, G: Guard>(
 /// steps of the line behind them.
 ///
 /// The answer is how many lines were done whole. After an error the image is to be dropped. What the worker had found before is forgotten.
+#[tactic(auto, using(st_image::proofs::Following::kept_none))]
 pub fn replay<M: Mailbox, G: Guard>(
     alloc: Global,
     image: &mut Image<M>,

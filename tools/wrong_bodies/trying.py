@@ -198,7 +198,9 @@ def by_a_trial(edit, top, crate, unedited):
         return False, "BAD EDIT: no program is built", said.rstrip("\n").split("\n")
     ended = run_trial(trial, program)
     lines = ended.stdout.rstrip("\n").split("\n")
-    is_well = ended.returncode != 0 and any(word in ended.stdout for word in trial[1:] or trial)
+    # It says which trial fails, or which tool: the words behind it may be options and numbers.
+    names = [word for word in trial[1:] if not word.startswith("-") and not word.isdigit()] or trial[:1]
+    is_well = ended.returncode != 0 and any(name in ended.stdout for name in names)
     return is_well, by_of(edit) if is_well else "NOT REFUSED BY ITS TRIAL", lines
 
 

@@ -8,7 +8,7 @@ use st_disk::failures::Failure;
 use st_disk::journals::Journal;
 use st_disk::new_files::{NewFile, hold, hold_beside};
 use st_disk::stamps::Stamp;
-use st_file::moments::Moment;
+use st_file::image_snapshots::ImageSnapshot;
 use st_script::images::Image;
 use st_script::keepers::{JournalSettings, JournalWriter, Keeper};
 use st_wire::names::refusal_name;
@@ -87,12 +87,12 @@ impl Held {
         rt: &R,
         alloc: Global,
         path: &str,
-        moment: &Moment,
+        snapshot: &ImageSnapshot,
     ) -> Result<u64, Failure>
-        ensures { IfOk result (λ n. Keeps moment.now (Ok n)) }
+        ensures { IfOk result (λ n. Keeps snapshot.now (Ok n)) }
     {
         let mut new = self.placed(rt, alloc, path)?;
-        match new.write(rt, alloc, moment) {
+        match new.write(rt, alloc, snapshot) {
             Ok((bytes, digest)) => {
                 self.ready = Some(Ready { new, digest });
                 Ok(bytes)
@@ -237,11 +237,11 @@ impl<'a> FileKeeper<'a> {
     }
 
     /// Writes an image beside the file at a path, unless somebody else does.
-    fn write_at(&self, alloc: Global, path: &str, moment: &Moment) -> Result<u64, Failure>
-        ensures { IfOk result (λ n. Keeps moment.now (Ok n)) }
+    fn write_at(&self, alloc: Global, path: &str, snapshot: &ImageSnapshot) -> Result<u64, Failure>
+        ensures { IfOk result (λ n. Keeps snapshot.now (Ok n)) }
     {
         match self.held.try_lock() {
-            Some(mut held) => held.write(self.rt, alloc, path, moment),
+            Some(mut held) => held.write(self.rt, alloc, path, snapshot),
             None => Err(Failure::from(Refusal::WriteFault)),
         }
     }
@@ -266,10 +266,10 @@ impl<'a> FileKeeper<'a> {
         &self,
         alloc: Global,
         path: &str,
-        moment: &Moment,
+        snapshot: &ImageSnapshot,
         is_last: bool,
     ) -> Result<(), Failure> {
-        self.write_at(alloc, path, moment)?;
+        self.write_at(alloc, path, snapshot)?;
         self.replace_at(alloc, path, self.end(), is_last)
     }
 
@@ -279,10 +279,10 @@ impl<'a> FileKeeper<'a> {
             drop(image);
             return Ok(());
         };
-        let moment = Moment::of(alloc, &image);
+        let snapshot = ImageSnapshot::of(alloc, &image);
         drop(image);
-        match moment {
-            Ok(moment) => match self.save(alloc, path, &moment, true) {
+        match snapshot {
+            Ok(snapshot) => match self.save(alloc, path, &snapshot, true) {
                 Ok(()) => {
                     self.remove_journal();
                     Ok(())
@@ -313,8 +313,8 @@ impl<'a> FileKeeper<'a> {
         let Some(path) = self.path else {
             return Err(Failure::from(Refusal::BadArguments));
         };
-        let moment = Moment::of(alloc, image)?;
-        self.save(alloc, path, &moment, false)?;
+        let snapshot = ImageSnapshot::of(alloc, image)?;
+        self.save(alloc, path, &snapshot, false)?;
         let digest = match self.held.try_lock() {
             Some(mut held) => held.digest.take(),
             None => None,
@@ -419,14 +419,14 @@ impl<'a> JournalWriter for FileKeeper<'a> {
 }
 
 impl<'a> Keeper for FileKeeper<'a> {
-    fn write(&self, alloc: Global, moment: &Moment) -> Result<u64, Refusal> {
+    fn write(&self, alloc: Global, snapshot: &ImageSnapshot) -> Result<u64, Refusal> {
         let Some(path) = self.path else {
             return Err(Refusal::BadArguments);
         };
         if let Err(refusal) = self.write_noted(alloc) {
             return Err(refused(refusal));
         }
-        match self.write_at(alloc, path, moment) {
+        match self.write_at(alloc, path, snapshot) {
             Ok(bytes) => Ok(bytes),
             Err(failure) => Err(self.refusal_of(alloc, NOT_SAVED, failure)),
         }

@@ -8,7 +8,7 @@ ghost use Rattle.st_calls.specs.Growth.{Grows, committed};
 use st_classes::refusals::Refusal;
 use st_classes::values::ActorId;
 use st_image::image::Image;
-use st_image::leavings::Leavings;
+use st_image::recycled::Recycled;
 use st_mailbox::mailboxes::Mailbox;
 use st_turn::claim::Claim;
 use std::alloc::Global;
@@ -19,7 +19,7 @@ pub fn check_out<M: Mailbox>(
     alloc: Global,
     image: &mut Image<M>,
     actor: ActorId,
-    leavings: &mut Leavings,
+    recycled: &mut Recycled,
 ) -> Result<Claim, Refusal>
     ensures takes { ChecksOut image.old actor result image.new }
     ensures fits { IfOk result (FitsClaim image.new) }
@@ -28,7 +28,7 @@ pub fn check_out<M: Mailbox>(
     ensures grows { Grows 0 0 0 image.old image.new }
 {
     image.known();
-    let answer = image.checkout_in(alloc, actor, leavings);
+    let answer = image.checkout_in(alloc, actor, recycled);
     image.known();
     answer
 }
@@ -39,7 +39,7 @@ pub fn commit<M: Mailbox>(
     alloc: Global,
     image: &mut Image<M>,
     claim: Claim,
-    leavings: &mut Leavings,
+    recycled: &mut Recycled,
 ) -> Result<u32, (Refusal, Option<Claim>)>
     requires { FitsClaim image.old claim }
     ensures commits { Commits image.old claim result image.new }
@@ -47,7 +47,7 @@ pub fn commit<M: Mailbox>(
     ensures later { GoesOnIn image.old image.new }
 {
     image.known();
-    let answer = image.commit_leaving(alloc, claim, leavings);
+    let answer = image.commit_recycling(alloc, claim, recycled);
     image.known();
     answer
 }
@@ -66,13 +66,13 @@ fn commit_any<M: Mailbox>(
     image: &mut Image<M>,
     claim: Claim,
     is_known: bool,
-    leavings: &mut Leavings,
+    recycled: &mut Recycled,
 ) -> Result<u32, (Refusal, Option<Claim>)>
     requires { is_known ≡ true → FitsClaim image.old claim }
     ensures { Commits image.old claim result image.new }
 {
     if is_known {
-        return image.commit_leaving(alloc, claim, leavings);
+        return image.commit_recycling(alloc, claim, recycled);
     }
     image.commit(alloc, claim)
 }
@@ -84,12 +84,12 @@ fn commit_or_release<M: Mailbox>(
     image: &mut Image<M>,
     claim: Claim,
     is_known: bool,
-    leavings: &mut Leavings,
+    recycled: &mut Recycled,
 ) -> Result<u32, Refusal>
     requires { is_known ≡ true → FitsClaim image.old claim }
     ensures { Settles image.old claim result image.new }
 {
-    match commit_any(alloc, image, claim, is_known, leavings) {
+    match commit_any(alloc, image, claim, is_known, recycled) {
         Ok(steps) => Ok(steps),
         Err((refusal, Some(claim))) => {
             image.release(claim);
@@ -106,7 +106,7 @@ pub fn settle<M: Mailbox>(
     image: &mut Image<M>,
     claim: Claim,
     is_known: bool,
-    leavings: &mut Leavings,
+    recycled: &mut Recycled,
 ) -> Result<u32, Refusal>
     requires { is_known ≡ true → FitsClaim image.old claim }
     ensures settles { Settles image.old claim result image.new }
@@ -115,7 +115,7 @@ pub fn settle<M: Mailbox>(
 {
     image.known();
     claim.known();
-    let answer = commit_or_release(alloc, image, claim, is_known, leavings);
+    let answer = commit_or_release(alloc, image, claim, is_known, recycled);
     image.known();
     answer
 }

@@ -3,7 +3,7 @@ pub mod Kernel
 pub mod Selectors
 pub mod OperandFlow
 pub mod Methods
-pub mod Operations
+pub mod Superinstructions
 pub mod Classes
 pub mod Depths
 pub mod Walks

@@ -13,7 +13,7 @@ use Rattle.st_reader.specs.declared.trees.Statements.{Statements as Row, out-Sta
 use Rattle.st_reader.specs.declared.inlining.Inlining.{Inlining}
 use Rattle.st_reader.specs.Syntax.{Expression, Message, Statements}
 use Rattle.st_reader.specs.Grammar.{count}
-use Rattle.st_reader.specs.Inlining.{inlining, part_texts}
+use Rattle.st_reader.specs.Inlining.{inlining, keyword_names}
 use Rattle.st_reader.specs.TreeViews.{message_view, expression_view, statements_view, assigns, seen_sentences, parts_of, seen_parts, thens, last_of, message_step, operand_step, chain_step, expression_step, statements_step}
 use Rattle.st_reader.specs.ExpressionKinds.{value_of}
 use Rattle.st_reader.proofs.Alone.{expression_out}
@@ -42,7 +42,7 @@ sent_keywords up d m ps qs old c1 now is same e f =
 pub inlined_many : (d : ℕ) (r : List Line) (m : Sent) (ps : Vec (Name × Chain) Global) (qs : List (Name × Chain)) → m ≡ Keyword ps → qs ≡ ps.items → 3 ≤ length qs → inlined d (inlining_of (message_view m)) r (blocks d (message_view m)) ≡ r
 inlined_many d r m ps qs is same long =
     ap (λ (x : Message). inlined d (inlining_of x) r (blocks d x)) (ap message_view is ∙ keyword_is ps)
-    ∙ ap (λ (l : List (Name × Chain)). inlined d (inlining (part_texts (parts_of (seen_parts l)))) r (part_blocks d (parts_of (seen_parts l)))) (sym same)
+    ∙ ap (λ (l : List (Name × Chain)). inlined d (inlining (keyword_names (parts_of (seen_parts l)))) r (part_blocks d (parts_of (seen_parts l)))) (sym same)
     ∙ ap (λ (o : Option Inlining). inlined d o r (part_blocks d (parts_of (seen_parts qs)))) (inlining_many qs long)
 
 -- ---- expressions

@@ -16,7 +16,7 @@ use Rattle.st_reader.specs.declared.tokens.Piece.{Piece}
 use Rattle.st_reader.specs.declared.tokens.Piece.TheVariants.{White, Comment, Token as Whole}
 use Rattle.st_reader.specs.Grammar.{IsPattern, count, pattern_toks, parameter_toks, parts_toks, toks}
 use Rattle.st_reader.specs.Pieces.{is_piece, is_word, is_keyword}
-use Rattle.st_reader.specs.Inlining.{part_texts}
+use Rattle.st_reader.specs.Inlining.{keyword_names}
 use Rattle.st_reader.specs.Syntax.{Parts, part, no_parts}
 use Rattle.st_reader.specs.Tokens.{Token, AreWhole, IsCut, piece_tokens, span, token_fits, tokens_from}
 use Rattle.st_reader.proofs.Lists.{closed_parts}
@@ -208,23 +208,23 @@ keywords_number (t ∷ ts) h l m =
 
 -- ---- messages of keywords
 
-parts_named : (ps : Parts) → AreNamed (parts_toks ps) → AllByRecursion IsKeyword (part_texts ps)
+parts_named : (ps : Parts) → AreNamed (parts_toks ps) → AllByRecursion IsKeyword (keyword_names ps)
 parts_named no_parts h = tt
 parts_named (part n e ps) h = (h.0, parts_named ps (named_back (toks e) (parts_toks ps) h.1))
 
-joined-together : (ps : Parts) → together (part_texts ps) ≡ joined ps
+joined-together : (ps : Parts) → together (keyword_names ps) ≡ joined ps
 joined-together no_parts = refl
 joined-together (part n e ps) = ap (λ (x : List ℕ). n.text ++ x) (joined-together ps)
 
-texts-count : (ps : Parts) → length (part_texts ps) ≡ count ps
+texts-count : (ps : Parts) → length (keyword_names ps) ≡ count ps
 texts-count no_parts = refl
 texts-count (part n e ps) = ap suc (texts-count ps)
 
 pub parts_number : (ps : Parts) → AreNamed (parts_toks ps) → 1 ≤ count ps → count ps ≤ 8 → is_number (arity_of (joined ps)) (count ps) ≡ true
 parts_number ps h l m =
     let n = texts-count ps in
-    let r = keywords_number (part_texts ps) (parts_named ps h) (omega (arith, n, l)) (omega (arith, n, m)) in
-    subst (λ k. is_number (arity_of (joined ps)) k ≡ true) n (subst (λ (x : List ℕ). is_number (arity_of x) (length (part_texts ps)) ≡ true) (joined-together ps) r)
+    let r = keywords_number (keyword_names ps) (parts_named ps h) (omega (arith, n, l)) (omega (arith, n, m)) in
+    subst (λ k. is_number (arity_of (joined ps)) k ≡ true) n (subst (λ (x : List ℕ). is_number (arity_of x) (length (keyword_names ps)) ≡ true) (joined-together ps) r)
 
 -- ---- patterns
 

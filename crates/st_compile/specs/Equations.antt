@@ -6,7 +6,7 @@ use Rattle.st_reader.specs.declared.inlining.Inlining.{Inlining}
 use Rattle.st_reader.specs.declared.inlining.Inlining.TheVariants.{IfTrue, IfFalse, IfTrueIfFalse, IfFalseIfTrue, And, Or, WhileTrue, WhileFalse}
 use Rattle.st_reader.specs.Syntax.{Method, Expression, Message, Parts, Further, Statements, parenthesis, empty_block, block, send, cascade, name, unary, keywords, no_parts, part, no_further, further, last, answer, statement}
 use Rattle.st_reader.specs.Grammar.{count}
-use Rattle.st_reader.specs.Inlining.{inlining, is_inlined, is_super, part_texts}
+use Rattle.st_reader.specs.Inlining.{inlining, is_inlined, is_super, keyword_names}
 use Rattle.st_compile.specs.DraftCode.{Word, Line, line, literal, symbol, receiver, variable, store, drop, repeat, message, super_message, jump, jump_false, jump_true, return}
 
 -- the selector of a keyword message: its keywords joined
@@ -52,7 +52,7 @@ inlined d _ r vs = r
 
 -- how a message is inlined, if it is
 abbrev pub inlining_of : Message → Option Inlining
-inlining_of (keywords ps) = inlining (part_texts ps)
+inlining_of (keywords ps) = inlining (keyword_names ps)
 inlining_of _ = None
 
 -- the first if the message is inlined, else the second

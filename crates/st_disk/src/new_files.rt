@@ -6,8 +6,8 @@ use crate::digests::WrittenDigest;
 use crate::failures::Failure;
 use crate::stamps::{Stamp, has_changed};
 use st_classes::refusals::Refusal;
-use st_file::moments::Moment;
-use st_file::saving::save_moment;
+use st_file::image_snapshots::ImageSnapshot;
+use st_file::saving::save_snapshot;
 use st_wire::streams::Writer;
 use std::alloc::Global;
 use std::fs::{self, File, Files, Permissions, TryLockError};
@@ -208,12 +208,12 @@ fn write_image(
     alloc: Global,
     file: &File,
     path: &str,
-    moment: &Moment,
+    snapshot: &ImageSnapshot,
 ) -> Result<(u64, String), Failure>
-    ensures { IfOk result (λ r. HasFileOf moment.now r.0) }
+    ensures { IfOk result (λ r. HasFileOf snapshot.now r.0) }
 {
     let mut output = WrittenDigest::new(Written { file, error: None });
-    let saved = save_moment(alloc, moment, &mut Writer::new(&mut output));
+    let saved = save_snapshot(alloc, snapshot, &mut Writer::new(&mut output));
     let (written, digest) = output.digest(alloc);
     let bytes = match saved {
         Ok(bytes) => bytes,
@@ -273,16 +273,16 @@ impl NewFile {
         &self,
         rt: &R,
         alloc: Global,
-        moment: &Moment,
+        snapshot: &ImageSnapshot,
     ) -> Result<(u64, String), Failure>
-        ensures { IfOk result (λ r. HasFileOf moment.now r.0) }
+        ensures { IfOk result (λ r. HasFileOf snapshot.now r.0) }
     {
         let place = self.place.as_str();
         if let Err(error) = self.file.set_len(0) {
             return Err(Failure::at(alloc, Refusal::WriteFault, place, &error));
         }
         take_rights(rt, &self.file, place);
-        write_image(alloc, &self.file, place, moment)
+        write_image(alloc, &self.file, place, snapshot)
     }
 
     /// Moves the new file, which is filled, to a free name beside the old one. The answer is its path then.
@@ -352,14 +352,14 @@ impl NewFile {
         &mut self,
         rt: &R,
         alloc: Global,
-        moment: &Moment,
+        snapshot: &ImageSnapshot,
     ) -> Result<(u64, String), Failure>
-        ensures { IfOk result (λ r. HasFileOf moment.now r.0) }
+        ensures { IfOk result (λ r. HasFileOf snapshot.now r.0) }
     {
         if !self.is_there(rt) {
             self.file = held(rt, alloc, self.path.as_str(), self.place.as_str())?;
         }
-        match self.fill(rt, alloc, moment) {
+        match self.fill(rt, alloc, snapshot) {
             Ok(written) => Ok(written),
             Err(failure) => {
                 self.remove(rt);

@@ -13,12 +13,12 @@ use Rattle.st_file.specs.declared.texts.ActorText.{ActorText}
 use Rattle.st_file.specs.declared.texts.ImageText.{ImageText}
 use Rattle.st_file.specs.Describes.{Describes}
 use Rattle.st_file.specs.Shapes.{actor_in, client_in, counts_in, edit_in, image_from, image_in, list_at}
-use Rattle.st_file.specs.Moments.{MomentView}
-use Rattle.st_file.specs.Saving.{IsDocument, TellsMoment}
+use Rattle.st_file.specs.ImageSnapshots.{ImageSnapshotView}
+use Rattle.st_file.specs.Saving.{IsDocument, TellsSnapshot}
 use Rattle.st_file.specs.Tellable.{HasSent}
 
 -- a value that says what tells a moment's image describes it
-told_describes : (v : Data) (m : MomentView) (t : ImageText) → image_in v ≡ Some t → TellsMoment m t → Describes v m.names m.base m.counts
+told_describes : (v : Data) (m : ImageSnapshotView) (t : ImageText) → image_in v ≡ Some t → TellsSnapshot m t → Describes v m.names m.base m.counts
 told_describes v m t shape tells =
     let edits = m.base.edits in
     record {
@@ -55,7 +55,7 @@ told_names v t h =
     names_from actors edits counts names senders t h
 
 -- a value that says what tells a moment's image, with its keys in order, is the image's document
-pub told_document : (v : Data) (m : MomentView) (t : ImageText) → (image_in v ≡ Some t) × (whole_at (codes "format") 1 2 v ≡ Some 2) → keys_rise v ≡ true → TellsMoment m t → IsDocument v m
+pub told_document : (v : Data) (m : ImageSnapshotView) (t : ImageText) → (image_in v ≡ Some t) × (whole_at (codes "format") 1 2 v ≡ Some 2) → keys_rise v ≡ true → TellsSnapshot m t → IsDocument v m
 told_document v m t shape ordered tells = record {
   format = shape.1;
   describes = told_describes v m t shape.0 tells;

@@ -10,7 +10,7 @@ use Rattle.st_classes.specs.declared.refusals.Refusal.{Refusal}
 use Rattle.st_wire.specs.Commands.{value_of}
 use Rattle.st_wire.proofs.Lines.{value-line}
 use Rattle.st_file.specs.Files.{document_of, without_newline}
-use Rattle.st_file.specs.Moments.{MomentView}
+use Rattle.st_file.specs.ImageSnapshots.{ImageSnapshotView}
 use Rattle.st_file.specs.Saving.{IsDocument, IsLineOf, Saves, Writes}
 
 pub appends_kept : (a b c : Option (List ℕ)) (bytes : List ℕ) → Appends a b bytes → Keeps b c → Appends a c bytes
@@ -47,7 +47,7 @@ is_line_of v text line same utf8 again is = record {
 }
 
 -- the line of an image's document is what the image's file has
-pub document_saved : {T : Type 0} (m : MomentView) (v : Data) (part : List ℕ) (r : Result T Refusal) → IsDocument v m → Writes (IsLineOf v) part r → Saves m part r
+pub document_saved : {T : Type 0} (m : ImageSnapshotView) (v : Data) (part : List ℕ) (r : Result T Refusal) → IsDocument v m → Writes (IsLineOf v) part r → Saves m part r
 document_saved m v part (Ok u) doc line = (v, doc, line)
 document_saved m v part (Err e) doc (inl nothing) = inl nothing
 document_saved m v part (Err e) doc (inr ((line, is, prefix), fault)) = inr ((line, (v, doc, is), prefix), fault)

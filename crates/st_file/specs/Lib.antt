@@ -12,7 +12,7 @@ pub mod Layers
 pub mod ListJson
 pub mod Meanings
 pub mod MessageJson
-pub mod Moments
+pub mod ImageSnapshots
 pub mod Named
 pub mod Ranges
 pub mod Saving

@@ -17,13 +17,13 @@ use Rattle.st_file.specs.declared.texts.ImageText.{ImageText}
 use Rattle.st_file.specs.Describes.{Describes}
 use Rattle.st_file.specs.Files.{document_of}
 use Rattle.st_file.specs.Meanings.{actors_meant}
-use Rattle.st_file.specs.Moments.{MomentView}
+use Rattle.st_file.specs.ImageSnapshots.{ImageSnapshotView}
 
 -- ---- an image as texts
 
 -- The texts hold the names after the kernel's, the edits, actors that mean those of the moment, the clients, and the counts. All of it
 -- can be loaded.
-pub record TellsMoment (m : MomentView) (t : ImageText) : Type 0 where
+pub record TellsSnapshot (m : ImageSnapshotView) (t : ImageText) : Type 0 where
   pub parts : List ActorPart
   pub names : t.names ≡ drop 22 m.names
   pub edits : t.edits ≡ edit_texts m.names m.base.edits
@@ -39,7 +39,7 @@ pub record TellsMoment (m : MomentView) (t : ImageText) : Type 0 where
 
 -- a value is the document of an image at a moment, in the second format: it describes that image; it lists all names after the
 -- kernel's, by their numbers; and its keys are in byte order at every level
-pub record IsDocument (v : Data) (m : MomentView) : Type 0 where
+pub record IsDocument (v : Data) (m : ImageSnapshotView) : Type 0 where
   pub format : whole_at (codes "format") 1 2 v ≡ Some 2
   pub describes : Describes v m.names m.base m.counts
   pub names : texts_at (codes "names") v ≡ Some (drop 22 m.names)
@@ -57,16 +57,16 @@ pub record IsLineOf (v : Data) (text : List ℕ) : Type 0 where
   pub again : document_of text ≡ Some v
 
 -- a text is that of an image's file: the line of the image's document
-abbrev pub IsFileOf : MomentView → List ℕ → Type 0
+abbrev pub IsFileOf : ImageSnapshotView → List ℕ → Type 0
 IsFileOf m text = (v : Data) × IsDocument v m × IsLineOf v text
 
 -- such a text has so many bytes
-abbrev pub HasFileOf : MomentView → ℕ → Type 0
+abbrev pub HasFileOf : ImageSnapshotView → ℕ → Type 0
 HasFileOf m n = (text : List ℕ) × IsFileOf m text × (n ≡ length text)
 
 -- a value is what is written of an image at a moment: the image's document, whose text is read as it; it nests nine deep at most and has
 -- no float
-pub record IsWrittenAs (v : Data) (m : MomentView) : Type 0 where
+pub record IsWrittenAs (v : Data) (m : ImageSnapshotView) : Type 0 where
   pub document : IsDocument v m
   pub again : read (compact_text v) ≡ Some v
   pub shallow : depth v ≤ 9
@@ -80,7 +80,7 @@ Writes IsWhole written (Err e) = ((written ≡ []) × (e ≡ NoMemory))
     ⊎ (((text : List ℕ) × IsWhole text × IsPrefix written text) × (e ≡ WriteFault))
 
 -- the text of the image's file is written
-abbrev pub Saves : {T : Type 0} → MomentView → List ℕ → Result T Refusal → Type 0
+abbrev pub Saves : {T : Type 0} → ImageSnapshotView → List ℕ → Result T Refusal → Type 0
 Saves m written result = Writes (IsFileOf m) written result
 
 -- a device's count of failures: one more if it failed

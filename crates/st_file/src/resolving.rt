@@ -24,7 +24,7 @@ const ACTORS: Refusal = Refusal::BadImage {
 };
 
 /// A text that can mean a part of an image.
-pub trait Means<P: Drop> {
+pub trait Resolve<P: Drop> {
     ghost use Rattle.std.specs.Prelude.{ℕ, List, Option};
     ghost use Rattle.st_classes.specs.declared.edits.Edit.{Edit};
 
@@ -37,7 +37,7 @@ pub trait Means<P: Drop> {
 }
 
 /// The parts that some texts mean.
-fn resolve_all<P: Drop, T: Means<P>>(
+fn resolve_all<P: Drop, T: Resolve<P>>(
     alloc: Global,
     names: &Names,
     version: &Version,

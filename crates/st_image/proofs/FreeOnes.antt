@@ -7,7 +7,7 @@ use Rattle.std.proofs.Math.Seq.{set-append_seam}
 use Rattle.std.proofs.lemmas.Bool.Decides.{nat_tests}
 use Rattle.std.proofs.lemmas.List.{set-get_or, get_or_read}
 use Rattle.std.proofs.lemmas.Option.{slice_get-get_or}
-use Rattle.st_flags.specs.Flags.{is_raised}
+use Rattle.st_bitset.specs.BitSet.{is_raised}
 use Rattle.st_turn.specs.Idle.{is_idle}
 use Rattle.st_turn.specs.declared.body.Phase.TheVariants.{Fresh}
 use Rattle.st_mailbox.specs.declared.messages.Message.{Message}

@@ -16,7 +16,7 @@ use Rattle.st_mailbox.specs.declared.messages.Message.{Message}
 use Rattle.st_mailbox.specs.declared.messages.Sender.{Sender}
 use Rattle.st_mailbox.specs.declared.messages.Sender.TheVariants.{Client, Actor}
 use Rattle.st_image.specs.declared.actor_part.ActorPart.{ActorPart}
-use Rattle.st_image.specs.declared.senders.seen.SeenNumbers.{SeenNumbers}
+use Rattle.st_image.specs.declared.sequence_numbers.seen.SeenNumbers.{SeenNumbers}
 use Rattle.st_image.specs.SenderNumbers.{AfterOthers, AreSeen, IsApart, IsIn, IsSent, has, number_cmp}
 
 -- ---- each item of a list, with those before it

@@ -7,7 +7,7 @@ use Rattle.st_turn.specs.declared.body.Body.{Body}
 use Rattle.st_turn.specs.declared.body.Phase.TheVariants.{Start}
 use Rattle.st_turn.specs.Idle.{is_idle}
 use Rattle.st_classes.specs.Refusals.{first_of}
-use Rattle.st_flags.specs.Flags.{is_no_later, is_raised}
+use Rattle.st_bitset.specs.BitSet.{is_no_later, is_raised}
 use Rattle.st_mailbox.specs.Mailboxes.{box_rules}
 use Rattle.st_mailbox.specs.declared.messages.Message.{Message}
 use Rattle.st_image.specs.declared.actor_part.ActorPart.{ActorPart}

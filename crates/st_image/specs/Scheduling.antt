@@ -1,7 +1,7 @@
 -- Which actor is next.
 use Rattle.std.specs.Prelude.{◌≡◌, ℕ, ◌==◌, ◌&&◌, ◌||◌, length, Bool, true, false, not, Option, Some, None, slice_get}
 use Rattle.st_turn.specs.Idle.{is_idle}
-use Rattle.st_flags.specs.Flags.{is_no_later}
+use Rattle.st_bitset.specs.BitSet.{is_no_later}
 use Rattle.st_image.specs.Worlds.{World, WorldActor, pending}
 use Rattle.st_image.specs.ClaimsOut.{claims_of}
 use Rattle.st_image.specs.Images.{ImageView, world}

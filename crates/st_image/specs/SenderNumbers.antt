@@ -7,7 +7,7 @@ use Rattle.st_mailbox.specs.declared.messages.Message.{Message}
 use Rattle.st_mailbox.specs.declared.messages.Sender.{Sender}
 use Rattle.st_mailbox.specs.declared.messages.Sender.TheVariants.{Client, Actor}
 use Rattle.st_image.specs.declared.actor_part.ActorPart.{ActorPart}
-use Rattle.st_image.specs.declared.senders.seen.SeenNumbers.{SeenNumbers}
+use Rattle.st_image.specs.declared.sequence_numbers.seen.SeenNumbers.{SeenNumbers}
 use Rattle.st_image.specs.Clients.{number_of}
 
 -- Q holds of each item of a list, with the items before it

@@ -317,12 +317,12 @@ pub(crate) fn put_steps<M: Mailbox>(
     actors: &mut Actors<M>,
     actor: ActorId,
     after: Body,
-    twin: &mut Option<Body>,
+    next_copy: &mut Option<Body>,
     is_act_next: bool,
     left: &mut Option<Body>,
 ) -> Result<bool, Body>
     requires there { actor.0 < length actors.old.list }
-    requires twin { IfSome twin.old (λ t. t ≡ after) }
+    requires next_copy { IfSome next_copy.old (λ t. t ≡ after) }
     requires few { FewAccepted actors.old.list }
     requires busy { (k : ActorView) → slice_get actors.old.list actor.0 ≡ Some k → idle k.body.phase ≡ false }
     requires shown { (w : World) × IsShown names.now capacity version.now (change_at (view_after_steps after) actor.0 actors.old.list) w }
@@ -330,11 +330,11 @@ pub(crate) fn put_steps<M: Mailbox>(
     ensures ok { IfOk result (λ outer. (w : World) → IsShown names.now capacity version.now (change_at (view_after_steps after) actor.0 actors.old.list) w → TakesOuter (constants_of names.now capacity) version.now (change_at (view_after_steps after) actor.0 actors.old.list) actors.new.list actor w outer) }
     ensures grown { OnOk result (GrowsByOne actors.old.list actors.new.list) }
     ensures out { OnOk result (SameOut actors.old.out actors.new.out) }
-    ensures left { IfSome twin.new (λ t. t ≡ after) }
+    ensures left { IfSome next_copy.new (λ t. t ≡ after) }
     ensures back { IfErr result (λ b. b ≡ after) }
     ensures err { OnErr result (actors.new ≡ actors.old) }
 {
-    let was = match actors.put_body(actor, after, twin) {
+    let was = match actors.put_body(actor, after, next_copy) {
         Ok(was) => was,
         Err(after) => return Err(after),
     };

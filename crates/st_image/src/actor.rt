@@ -3,9 +3,9 @@ ghost use Rattle.std.specs.Prelude.{◌≡◌, None};
 ghost use Rattle.st_turn.specs.Idle.{is_idle as idle};
 ghost use Rattle.st_turn.specs.Steps.{step};
 
-mod plain_data;
+mod copying;
 
-use crate::leavings::Leavings;
+use crate::recycled::Recycled;
 use crate::results::Results;
 use st_classes::faults::Fault;
 use st_classes::refusals::Refusal;
@@ -20,11 +20,11 @@ use std::marker::Model;
 
 /// Lets the copy of a body go, if there is one.
 #[inline(always)]
-fn drop_twin(twin: &mut Option<Body>)
-    ensures { twin.new ≡ None }
+fn drop_next_copy(next_copy: &mut Option<Body>)
+    ensures { next_copy.new ≡ None }
 {
-    if twin.is_some() {
-        *twin = None;
+    if next_copy.is_some() {
+        *next_copy = None;
     }
 }
 
@@ -36,7 +36,7 @@ pub(crate) struct Actor<M: Mailbox> {
     mailbox: M,
     body: Body,
     /// A copy of the body, if there is one, for the next claim.
-    twin: Option<Body>,
+    next_copy: Option<Body>,
     /// The number of the last message that it sent.
     last: u64,
     /// How many messages its mailbox accepted.
@@ -55,7 +55,7 @@ impl<M: Mailbox> Model for Actor<M> {
     ghost use Rattle.std.specs.Prelude.{◌≡◌, ◌+◌, ◌≤◌, length, if◌then◌else◌, IfSome};
     ghost use Rattle.st_turn.specs.Idle.{is_idle as idle_phase};
 
-    ghost invariant = { λ a. (a.results.count + length (M.shown a.mailbox).items + (if idle_phase a.body.phase then 0 else 1) ≤ a.accepted + 1) × IfSome a.twin (λ t. t ≡ a.body) };
+    ghost invariant = { λ a. (a.results.count + length (M.shown a.mailbox).items + (if idle_phase a.body.phase then 0 else 1) ≤ a.accepted + 1) × IfSome a.next_copy (λ t. t ≡ a.body) };
 }
 
 impl<M: Mailbox> Actor<M> {
@@ -84,7 +84,7 @@ impl<M: Mailbox> Actor<M> {
             class,
             mailbox: M::with_capacity(alloc, capacity)?,
             body,
-            twin: None,
+            next_copy: None,
             last: 0,
             accepted: 0,
             results: Results::new(alloc)?,
@@ -212,23 +212,23 @@ impl<M: Mailbox> Actor<M> {
         ensures { self.new ≡ view_after_begin self.old }
     {
         if let Some(message) = self.mailbox.take() {
-            drop_twin(&mut self.twin);
+            drop_next_copy(&mut self.next_copy);
             self.body.begin(message.selector, message.args);
         }
     }
 
-    /// A copy of the body: its twin, if there is one.
-    fn take_copy(&mut self, alloc: Global, leavings: &mut Leavings) -> Result<Body, AllocError>
+    /// A copy of the body: its next copy, if there is one.
+    fn take_copy(&mut self, alloc: Global, recycled: &mut Recycled) -> Result<Body, AllocError>
         ensures same { self.new ≡ self.old }
         ensures copy { IfOk result (λ b. b ≡ self.old.body) }
     {
         // Mostly there is none, and to take it would move its whole room.
-        if self.twin.is_some() {
-            if let Some(twin) = self.twin.take() {
-                return Ok(twin);
+        if self.next_copy.is_some() {
+            if let Some(next_copy) = self.next_copy.take() {
+                return Ok(next_copy);
             }
         }
-        self.body.copy_into(alloc, leavings.spare_for(&self.body))
+        self.body.copy_into(alloc, recycled.spare_for(&self.body))
     }
 
     /// The body that a checkout hands out: that of an idle actor has begun the first pending message, where one is pending. It takes
@@ -236,12 +236,12 @@ impl<M: Mailbox> Actor<M> {
     pub(crate) fn body_to_check_out(
         &mut self,
         alloc: Global,
-        leavings: &mut Leavings,
+        recycled: &mut Recycled,
     ) -> Result<Body, AllocError>
         ensures same { self.new ≡ self.old }
         ensures body { IfOk result (λ b. b ≡ (view_checked_out self.old).body) }
     {
-        let mut body = self.take_copy(alloc, leavings)?;
+        let mut body = self.take_copy(alloc, recycled)?;
         if body.is_idle() {
             if let Some(message) = self.mailbox.item(0) {
                 let message = message.copy(alloc)?;
@@ -262,13 +262,17 @@ impl<M: Mailbox> Actor<M> {
 
     /// The actor has this body after steps of its own, and the copy of it, if there is one; the body before is given out. A turn that
     /// ended adds its result. For want of memory nothing changes, and the body is given back.
-    pub(crate) fn put_body(&mut self, body: Body, twin: &mut Option<Body>) -> Result<Body, Body>
+    pub(crate) fn put_body(
+        &mut self,
+        body: Body,
+        next_copy: &mut Option<Body>,
+    ) -> Result<Body, Body>
         requires busy { idle self.old.body.phase ≡ false }
-        requires twin { IfSome twin.old (λ t. t ≡ body) }
+        requires next_copy { IfSome next_copy.old (λ t. t ≡ body) }
         requires few { self.old.accepted < 2 ^ 63 }
         ensures was { IfOk result (λ was. was ≡ self.old.body) }
         ensures ok { OnOk result (self.new ≡ view_after_steps body self.old) }
-        ensures left { IfSome twin.new (λ t. t ≡ body) }
+        ensures left { IfSome next_copy.new (λ t. t ≡ body) }
         ensures back { IfErr result (λ b. b ≡ body) }
         ensures err { OnErr result (self.new ≡ self.old) }
     {
@@ -278,8 +282,8 @@ impl<M: Mailbox> Actor<M> {
         if let Phase::Done(outcome) = &body.phase {
             self.results.push(*outcome);
         }
-        if twin.is_some() || self.twin.is_some() {
-            drop(std::mem::replace(&mut self.twin, twin.take()));
+        if next_copy.is_some() || self.next_copy.is_some() {
+            drop(std::mem::replace(&mut self.next_copy, next_copy.take()));
         }
         Ok(std::mem::replace(&mut self.body, body))
     }
@@ -290,7 +294,7 @@ impl<M: Mailbox> Actor<M> {
         ensures had { result ≡ self.old.body }
         ensures back { self.new ≡ record self.old { body = body } }
     {
-        drop_twin(&mut self.twin);
+        drop_next_copy(&mut self.next_copy);
         std::mem::replace(&mut self.body, body)
     }
 
@@ -300,7 +304,7 @@ impl<M: Mailbox> Actor<M> {
         requires act { IsAct (step version.now number self.old.body) }
         ensures { (act : ActOf) → step version.now number self.old.body ≡ outer act → self.new ≡ view_after_steps (reply_body act (Ok value) self.old.body) self.old }
     {
-        drop_twin(&mut self.twin);
+        drop_next_copy(&mut self.next_copy);
         reply(&mut self.body, number, version, Ok(value));
     }
 
@@ -318,7 +322,7 @@ impl<M: Mailbox> Actor<M> {
         ensures err { OnErr result (self.new ≡ self.old) }
     {
         self.results.reserve()?;
-        drop_twin(&mut self.twin);
+        drop_next_copy(&mut self.next_copy);
         reply(&mut self.body, number, version, Err(fault));
         if let Phase::Done(outcome) = &self.body.phase {
             self.results.push(*outcome);

@@ -2,16 +2,16 @@
 ghost use Rattle.std.specs.Prelude.{◌≡◌, ◌&&◌, ◌==◌, ◌<◌, ◌++◌, [], ◌∷◌, length, vec_len, vec_capacity, false, OnOk, OnErr};
 ghost use Rattle.st_image.specs.ClaimsOut.{one_less as one_less_of, one_more as one_more_of};
 
-mod plain_data;
+mod loading;
 mod renewal;
 
 use crate::actor::Actor;
-use crate::leavings::Leavings;
 use crate::letting_go::let_go;
+use crate::recycled::Recycled;
+use st_bitset::bitset::BitSet;
 use st_classes::faults::Fault;
 use st_classes::values::{ActorId, Value};
 use st_classes::version::Version;
-use st_flags::flags::Flags;
 use st_mailbox::mailboxes::Mailbox;
 use st_mailbox::messages::Message;
 use st_turn::acts::{Act, next_act};
@@ -25,7 +25,7 @@ pub(crate) struct Actors<M: Mailbox> {
     items: Vec<Actor<M>>,
     out: Vec<u32>,
     /// Those that are ready and have no claim out.
-    free: Flags,
+    free: BitSet,
 }
 
 impl<M: Mailbox> Model for Actors<M> {
@@ -66,7 +66,7 @@ fn one_less(out: u32) -> u32
 fn make_room<M: Mailbox>(
     items: &mut Vec<Actor<M>>,
     out: &mut Vec<u32>,
-    free: &mut Flags,
+    free: &mut BitSet,
 ) -> Result<(), AllocError>
     requires { length free.old < 65536 }
     ensures items { items.new.items ≡ items.old.items }
@@ -99,7 +99,7 @@ impl<M: Mailbox> Actors<M> {
         Actors {
             items: Vec::new(alloc),
             out: Vec::new(alloc),
-            free: Flags::new(alloc),
+            free: BitSet::new(alloc),
         }
     }
 
@@ -179,14 +179,14 @@ impl<M: Mailbox> Actors<M> {
         &mut self,
         alloc: Global,
         actor: ActorId,
-        leavings: &mut Leavings,
+        recycled: &mut Recycled,
     ) -> Result<Body, AllocError>
         requires { actor.0 < length self.old.list }
         ensures same { self.new ≡ self.old }
         ensures body { IfOk result (λ b. (k : ActorView) → slice_get self.old.list actor.0 ≡ Some k → b ≡ (view_checked_out k).body) }
     {
         let item = &mut self.items[actor.0 as usize];
-        item.body_to_check_out(alloc, leavings)
+        item.body_to_check_out(alloc, recycled)
     }
 
     /// A claim more of an actor is out. An actor that is idle begins its first pending message, where one is pending. The answer is
@@ -225,20 +225,20 @@ impl<M: Mailbox> Actors<M> {
         &mut self,
         actor: ActorId,
         body: Body,
-        twin: &mut Option<Body>,
+        next_copy: &mut Option<Body>,
     ) -> Result<Body, Body>
         requires there { actor.0 < length self.old.list }
-        requires twin { IfSome twin.old (λ t. t ≡ body) }
+        requires next_copy { IfSome next_copy.old (λ t. t ≡ body) }
         requires busy { (k : ActorView) → slice_get self.old.list actor.0 ≡ Some k → idle k.body.phase ≡ false }
         requires few { (k : ActorView) → slice_get self.old.list actor.0 ≡ Some k → k.accepted < 2 ^ 63 }
         ensures was { IfOk result (λ was. (k : ActorView) → slice_get self.old.list actor.0 ≡ Some k → was ≡ k.body) }
         ensures ok { OnOk result (self.new ≡ record self.old { list = change_at (view_after_steps body) actor.0 self.old.list }) }
-        ensures left { IfSome twin.new (λ t. t ≡ body) }
+        ensures left { IfSome next_copy.new (λ t. t ≡ body) }
         ensures back { IfErr result (λ b. b ≡ body) }
         ensures err { OnErr result (self.new ≡ self.old) }
     {
         let item = &mut self.items[actor.0 as usize];
-        let was = item.put_body(body, twin)?;
+        let was = item.put_body(body, next_copy)?;
         let free = is_free(item.is_ready(), self.out[actor.0 as usize]);
         self.free.set(actor.0, free);
         Ok(was)

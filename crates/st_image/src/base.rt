@@ -7,7 +7,7 @@ use crate::actor_part::ActorPart;
 use st_classes::token::Token;
 use st_classes::values::ActorId;
 use st_turn::body::Phase;
-use st_turn::log::Log;
+use st_turn::ghost_list::GhostList;
 use std::alloc::{AllocError, Global};
 use std::marker::Model;
 
@@ -17,9 +17,9 @@ use std::marker::Model;
 pub(crate) struct Base {
     token: Token,
     /// The actors, for proofs.
-    actors: Log<ActorPart>,
+    actors: GhostList<ActorPart>,
     /// The clients, for proofs.
-    clients: Log<(u16, u64)>,
+    clients: GhostList<(u16, u64)>,
     /// The numbers of the actors' first turns.
     first_turns: Vec<u8>,
 }
@@ -49,10 +49,10 @@ fn first_of(phase: &Phase) -> u8
 }
 
 /// Clients, for proofs.
-fn logged(clients: &[(u16, u64)]) -> Log<(u16, u64)>
+fn logged(clients: &[(u16, u64)]) -> GhostList<(u16, u64)>
     ensures { result.items ≡ clients.now }
 {
-    let mut log = Log::new();
+    let mut log = GhostList::new();
     'clients: for place in 0..clients.len() {
         log = log.and(&clients[place]);
     }
@@ -66,7 +66,7 @@ impl Base {
     {
         Base {
             token,
-            actors: Log::new(),
+            actors: GhostList::new(),
             clients: logged(clients),
             first_turns: Vec::new(alloc),
         }

@@ -9,7 +9,7 @@ ghost use Rattle.st_journal.specs.FileDevices.{BeginWithin, BeginWithin-prop, al
 
 use crate::changes::Change;
 use st_log::device::{Device, DeviceError};
-use st_turn::log::Log;
+use st_turn::ghost_list::GhostList;
 use std::alloc::Global;
 
 /// A file has fewer bytes.
@@ -37,9 +37,9 @@ pub struct FileDevice<F: FileCalls> {
     /// What was read, until it is given out or changed.
     bytes: Option<Vec<u8>>,
     /// The same, for proofs.
-    opened: Log<Vec<u8>>,
+    opened: GhostList<Vec<u8>>,
     /// What was done since, for proofs.
-    changes: Log<Change>,
+    changes: GhostList<Change>,
     /// Whether a call of the file has failed.
     is_broken: bool,
     last_error: Option<DeviceError>,
@@ -65,13 +65,13 @@ impl<F: FileCalls> FileDevice<F> {
     pub fn new(alloc: Global, file: F, bytes: Vec<u8>) -> FileDevice<F>
         ensures bytes { device_contents result ≡ bytes.items }
     {
-        let opened = Log::new().and(&bytes);
+        let opened = GhostList::new().and(&bytes);
         FileDevice {
             alloc,
             file,
             bytes: Some(bytes),
             opened,
-            changes: Log::new(),
+            changes: GhostList::new(),
             is_broken: false,
             last_error: None,
         }

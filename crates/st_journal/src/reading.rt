@@ -16,7 +16,7 @@ use st_classes::version::Version;
 use st_file::fields::{
     Readable, SHAPE, actor_at, count, list_at, number_at, one_at, text_at, within,
 };
-use st_file::resolving::Means;
+use st_file::resolving::Resolve;
 use st_file::texts::MessageText;
 use st_image::edit_text::EditText;
 use st_wire::keys::{has_just, size};

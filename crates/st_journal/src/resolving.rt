@@ -12,11 +12,11 @@ use st_classes::names::Names;
 use st_classes::refusals::Refusal;
 use st_classes::seq::Seq;
 use st_classes::version::Version;
-use st_file::resolving::{Means, class_of, selector_of};
+use st_file::resolving::{Resolve, class_of, selector_of};
 use st_image::edit_text::EditText;
 use std::alloc::Global;
 
-impl Means<Entry> for EntryText {
+impl Resolve<Entry> for EntryText {
     ghost meaning = { spec.entry_meant };
 
     fn resolve(&self, alloc: Global, names: &Names, version: &Version) -> Result<Entry, Refusal> {

@@ -15,7 +15,7 @@ use crate::shares::WorkerShare;
 use crate::workers::Gate;
 use st_classes::refusals::Refusal;
 use st_guard::guard::Guard;
-use st_image::leavings::Leavings;
+use st_image::recycled::Recycled;
 use st_mailbox::mailboxes::Mailbox;
 use std::alloc::Global;
 
@@ -28,7 +28,7 @@ struct ClaimSlot<K: Naming> {
     pool_claim: Option<PoolClaim<K>>,
     was_short: bool,
     is_starved: bool,
-    leavings: Leavings,
+    recycled: Recycled,
 }
 
 impl<K: Naming> ClaimSlot<K> {
@@ -37,7 +37,7 @@ impl<K: Naming> ClaimSlot<K> {
             pool_claim: None,
             was_short: false,
             is_starved: false,
-            leavings: Leavings::none(),
+            recycled: Recycled::none(),
         }
     }
 
@@ -62,7 +62,7 @@ impl<K: Naming> ClaimSlot<K> {
     ) -> Work<()>
         ensures { IsHold of_worker pool.old pool.new }
     {
-        let work = pool.work(alloc, share, &mut self.leavings);
+        let work = pool.work(alloc, share, &mut self.recycled);
         self.put(work)
     }
 
@@ -83,9 +83,9 @@ impl<K: Naming> ClaimSlot<K> {
         self.is_starved = pool_worker.run(alloc, pool_claim, quantum).is_err();
         self.was_short = is_short(pool_claim.claim().steps());
         if self.is_starved {
-            self.leavings.let_go();
+            self.recycled.let_go();
         } else {
-            pool_claim.prepare(alloc, &mut self.leavings);
+            pool_claim.prepare(alloc, &mut self.recycled);
         }
         ran.add(self.was_short, self.is_starved);
     }
@@ -108,7 +108,7 @@ impl<K: Naming> ClaimSlot<K> {
             pool_claim,
             self.is_starved || !goes_on,
             self.was_short,
-            &mut self.leavings,
+            &mut self.recycled,
         );
         Some((answer, self.put(work)))
     }
@@ -117,9 +117,9 @@ impl<K: Naming> ClaimSlot<K> {
     /// the end of the next quantum may take its memory. The lock is not held.
     fn let_go(&mut self) {
         if self.pool_claim.is_some() {
-            self.leavings.let_go_but_body();
+            self.recycled.let_go_but_body();
         } else {
-            self.leavings.let_go();
+            self.recycled.let_go();
         }
     }
 }

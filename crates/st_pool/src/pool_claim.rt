@@ -1,7 +1,7 @@
 //! A claim of a pool: one that knows the image of its checkout.
 use crate::known_prefix::KnownPrefix;
 use crate::naming::Naming;
-use st_image::leavings::Leavings;
+use st_image::recycled::Recycled;
 use st_turn::claim::Claim;
 use std::alloc::Global;
 use std::marker::Model;
@@ -29,10 +29,10 @@ impl<K: Naming> PoolClaim<K> {
     ghost use Rattle.std.specs.Prelude.{◌≡◌};
 
     /// The claim, which was run, makes the copy of its body with which the next one of the actor begins.
-    pub(crate) fn prepare(&mut self, alloc: Global, leavings: &mut Leavings)
+    pub(crate) fn prepare(&mut self, alloc: Global, recycled: &mut Recycled)
         ensures { self.new ≡ self.old }
     {
-        leavings.prepare(alloc, &mut self.claim);
+        recycled.prepare(alloc, &mut self.claim);
     }
 
     /// The claim.

@@ -13,7 +13,7 @@ use Rattle.st_wire.specs.declared.replies.Reply.{Reply}
 use Rattle.st_wire.specs.declared.replies.Reply.TheVariants.{Refused, Told}
 use Rattle.st_queries.specs.Answers.{IsAnswer}
 use Rattle.st_queries.specs.declared.hosts.Host.{Host}
-use Rattle.st_queries.specs.Sights.{Sight, sight}
+use Rattle.st_queries.specs.Snapshots.{Snapshot, snapshot}
 use Rattle.st_queries.specs.Replying.{Looks, Says, TellsOf, TellsSeen}
 
 pub says_told : (d : Result Data Refusal) (told v : Value) → IsAnswer d (Ok told) → view v ≡ ok (view told) → Says d (Told v)
@@ -30,6 +30,6 @@ says_refused (Ok x) e h = inr (ap Refused h)
 says_refused (Err f) e h = let same : e ≡ f = let both : Err e ≡ Err f = h in cc in ap Refused same
 
 -- what is seen of an image is told of it
-pub looked : (i : ImageView) (host : Host) (q : Query) (s : Result Sight AllocError) (r : Reply) → IfOk s (λ (x : Sight). x ≡ sight i q) → TellsSeen s host q r → Looks i host q r
-looked i host q (Ok x) r e h = inl (subst (λ (y : Sight). TellsOf y host q r) e h)
+pub looked : (i : ImageView) (host : Host) (q : Query) (s : Result Snapshot AllocError) (r : Reply) → IfOk s (λ (x : Snapshot). x ≡ snapshot i q) → TellsSeen s host q r → Looks i host q r
+looked i host q (Ok x) r e h = inl (subst (λ (y : Snapshot). TellsOf y host q r) e h)
 looked i host q (Err f) r e h = inr h

@@ -6,12 +6,12 @@ use Rattle.st_classes.specs.declared.methods.MethodParts.{MethodParts}
 use Rattle.st_classes.specs.EditLists.{method_at}
 use Rattle.st_image.specs.Loading.{class_text}
 use Rattle.st_wire.specs.Replies.{whole}
-use Rattle.st_queries.specs.declared.glances.Glance.{Glance}
-use Rattle.st_queries.specs.declared.glances.Stand.{Stand}
-use Rattle.st_queries.specs.declared.glances.Stand.TheVariants.{Fresh, Started, Running, Ended}
+use Rattle.st_queries.specs.declared.actor_snapshots.ActorSnapshot.{ActorSnapshot}
+use Rattle.st_queries.specs.declared.actor_snapshots.Stand.{Stand}
+use Rattle.st_queries.specs.declared.actor_snapshots.Stand.TheVariants.{Fresh, Started, Running, Ended}
 use Rattle.st_queries.specs.Listing.{listed}
 use Rattle.st_queries.specs.Outcomes.{outcome_told}
-use Rattle.st_queries.specs.Sights.{Sight}
+use Rattle.st_queries.specs.Snapshots.{Snapshot}
 use Rattle.st_queries.specs.MethodNames.{method_named}
 
 -- the phase of a turn: `"fresh"`, `"start"`, `"frames"`, or how it ended
@@ -32,7 +32,7 @@ running_told names edits (Running m) = running_method names edits (method_at edi
 running_told names edits _ = null
 
 -- an actor by its number
-abbrev pub actor_told : List (List ℕ) → List Edit → ℕ → Glance → Data
+abbrev pub actor_told : List (List ℕ) → List Edit → ℕ → ActorSnapshot → Data
 actor_told names edits n g = object
     (member (codes "accepted") (whole g.accepted)
     (member (codes "actor") (whole n)
@@ -44,8 +44,8 @@ actor_told names edits n g = object
     no_members)))))))
 
 -- the actors that are seen, of which the first has this number, and how many there are in all
-abbrev pub actors_told : Sight → ℕ → Data
+abbrev pub actors_told : Snapshot → ℕ → Data
 actors_told s from = object
-    (member (codes "actors") (listed (λ n. option_map (actor_told s.names s.edits (from + n)) (slice_get s.glances n)) 0 (length s.glances))
+    (member (codes "actors") (listed (λ n. option_map (actor_told s.names s.edits (from + n)) (slice_get s.actor_snapshots n)) 0 (length s.actor_snapshots))
     (member (codes "count") (whole s.actors)
     no_members))

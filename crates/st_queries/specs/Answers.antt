@@ -34,7 +34,7 @@ use Rattle.st_queries.specs.Inspecting.{inspected_told}
 use Rattle.st_queries.specs.Listing.{listed}
 use Rattle.st_queries.specs.OwnMethods.{method_count, standing}
 use Rattle.st_queries.specs.Resolving.{and_then, class_in, selector_in}
-use Rattle.st_queries.specs.Sights.{Sight, sight}
+use Rattle.st_queries.specs.Snapshots.{Snapshot, snapshot}
 use Rattle.st_queries.specs.Sources.{source_at}
 use Rattle.st_queries.specs.Status.{status_told}
 use Rattle.st_queries.specs.MethodNames.{method_named}
@@ -165,7 +165,7 @@ senders_told names edits s = only (codes "methods")
 
 -- what is told of what is seen of an image; names are looked up and not interned, and a class before a selector. The offsets are those
 -- that are told of the frames of a turn that failed
-abbrev pub told_of : Sight → Host → List (Option ℕ) → Query → Result Data Refusal
+abbrev pub told_of : Snapshot → Host → List (Option ℕ) → Query → Result Data Refusal
 told_of s host offsets query.Classes = Ok (classes_told s.edits)
 told_of s host offsets (query.Methods class) = and_then (λ c. Ok (methods_told s.names s.edits c)) (class_in s.edits class)
 told_of s host offsets (query.Source class text) =
@@ -183,7 +183,7 @@ told_of s host offsets query.Status = Ok (status_told s host)
 
 -- what a query answers: what is told of what is seen of the image for it
 abbrev pub told : ImageView → Host → List (Option ℕ) → Query → Result Data Refusal
-told i host offsets q = told_of (sight i q) host offsets q
+told i host offsets q = told_of (snapshot i q) host offsets q
 
 -- the answer is that; memory can run out only where something is told
 abbrev pub IsAnswer : Result Data Refusal → Result Value Refusal → Type 0

@@ -6,7 +6,7 @@ use Rattle.st_classes.specs.declared.refusals.Refusal.{Refusal}
 use Rattle.st_classes.specs.declared.refusals.Refusal.TheVariants.{BadArguments}
 use Rattle.st_wire.specs.Replies.{whole}
 use Rattle.st_file.specs.EditJson.{edit_json}
-use Rattle.st_queries.specs.Glances.{so_many}
+use Rattle.st_queries.specs.ActorSnapshots.{so_many}
 use Rattle.st_queries.specs.Listing.{listed}
 
 -- the edits behind the first ones, 256 at most, and how many there are in all

@@ -2,12 +2,12 @@ pub mod Resolving
 pub mod Listing
 pub mod OwnMethods
 pub mod MethodNames
-pub mod Glances
+pub mod ActorSnapshots
 pub mod Inspecting
 pub mod Hosts
 pub mod FailedTurns
 pub mod Endings
-pub mod Sights
+pub mod Snapshots
 pub mod Outcomes
 pub mod Sources
 pub mod Sent

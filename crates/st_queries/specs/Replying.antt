@@ -13,7 +13,7 @@ use Rattle.st_wire.specs.declared.replies.Reply.{Reply}
 use Rattle.st_wire.specs.declared.replies.Reply.TheVariants as reply
 use Rattle.st_queries.specs.declared.hosts.Host.{Host}
 use Rattle.st_queries.specs.Answers.{told_of}
-use Rattle.st_queries.specs.Sights.{Sight, sight}
+use Rattle.st_queries.specs.Snapshots.{Snapshot, snapshot}
 
 -- a reply says what is told, or that there was no memory to tell it; a refusal stays
 abbrev pub Says : Result Data Refusal → Reply → Type 0
@@ -21,14 +21,14 @@ Says (Ok d) r = ((v : Value) × (r ≡ reply.Told v) × (view v ≡ ok d)) ⊎ (
 Says (Err e) r = r ≡ reply.Refused e
 
 -- the reply to a query says what is told of what was seen for it, for some offsets in sources: which these are is said nowhere
-abbrev pub TellsOf : Sight → Host → Query → Reply → Type 0
+abbrev pub TellsOf : Snapshot → Host → Query → Reply → Type 0
 TellsOf s host q r = (offsets : List (Option ℕ)) × Says (told_of s host offsets q) r
 
 -- the same; or there was no memory to see it
-abbrev pub TellsSeen : Result Sight AllocError → Host → Query → Reply → Type 0
+abbrev pub TellsSeen : Result Snapshot AllocError → Host → Query → Reply → Type 0
 TellsSeen (Ok s) host q r = TellsOf s host q r
 TellsSeen (Err e) host q r = r ≡ reply.Refused NoMemory
 
 -- the same of an image
 abbrev pub Looks : ImageView → Host → Query → Reply → Type 0
-Looks i host q r = TellsOf (sight i q) host q r ⊎ (r ≡ reply.Refused NoMemory)
+Looks i host q r = TellsOf (snapshot i q) host q r ⊎ (r ≡ reply.Refused NoMemory)

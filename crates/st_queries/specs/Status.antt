@@ -5,13 +5,13 @@ use Rattle.st_classes.specs.Classes.{class_count}
 use Rattle.st_wire.specs.Replies.{whole}
 use Rattle.st_queries.specs.declared.hosts.Host.{Host}
 use Rattle.st_queries.specs.Hosts.{epoch}
-use Rattle.st_queries.specs.Sights.{Sight}
+use Rattle.st_queries.specs.Snapshots.{Snapshot}
 
 -- how many edits there is room for: 4,096 in the class table, 2,048 in a run
-abbrev pub edits_left : Sight → ℕ
+abbrev pub edits_left : Snapshot → ℕ
 edits_left s = min (4096 - length s.edits) (2048 - s.edits_made)
 
-abbrev pub status_told : Sight → Host → Data
+abbrev pub status_told : Snapshot → Host → Data
 status_told s host = object
     (member (codes "actors") (whole s.actors)
     (member (codes "classes") (whole (class_count s.edits))

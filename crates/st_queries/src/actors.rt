@@ -4,10 +4,10 @@ ghost use Rattle.serde_json.specs.View.{view};
 ghost use Rattle.st_classes.specs.EditLists.{method_at};
 ghost use Rattle.st_queries.specs.Actors.{actor_told, actors_told, phase_told, running_method, running_told};
 
-use crate::glances::{Glance, Stand};
+use crate::actor_snapshots::{ActorSnapshot, Stand};
 use crate::listing::{Rows, list};
 use crate::outcomes::outcome;
-use crate::sights::Sight;
+use crate::snapshots::Snapshot;
 use crate::texts::class_text;
 use crate::values::{Table, method_named};
 use st_classes::names::Names;
@@ -64,21 +64,29 @@ fn actor(
     names: &Names,
     version: &Version,
     number: u64,
-    glance: Glance,
+    actor_snapshot: ActorSnapshot,
 ) -> Result<Told, AllocError>
-    ensures { IfOk result (λ told. view told ≡ actor_told names.now version.now number glance) }
+    ensures { IfOk result (λ told. view told ≡ actor_told names.now version.now number actor_snapshot) }
 {
     let mut members = Members::new(alloc);
-    members.put(alloc, "accepted", Told::whole(glance.accepted))?;
+    members.put(alloc, "accepted", Told::whole(actor_snapshot.accepted))?;
     members.put(alloc, "actor", Told::whole(number))?;
-    members.put(alloc, "begun", Told::whole(glance.begun))?;
-    members.put(alloc, "class", class_text(alloc, version, glance.class)?)?;
-    members.put(alloc, "open", Told::truth(glance.is_open))?;
-    members.put(alloc, "phase", phase(alloc, names, version, glance.stand)?)?;
+    members.put(alloc, "begun", Told::whole(actor_snapshot.begun))?;
+    members.put(
+        alloc,
+        "class",
+        class_text(alloc, version, actor_snapshot.class)?,
+    )?;
+    members.put(alloc, "open", Told::truth(actor_snapshot.is_open))?;
+    members.put(
+        alloc,
+        "phase",
+        phase(alloc, names, version, actor_snapshot.stand)?,
+    )?;
     members.put(
         alloc,
         "running",
-        running(alloc, names, version, glance.stand)?,
+        running(alloc, names, version, actor_snapshot.stand)?,
     )?;
     Ok(members.told())
 }
@@ -88,38 +96,38 @@ fn actor(
 struct ActorRows<'a> {
     names: &'a Names,
     version: &'a Version,
-    glances: &'a [Glance],
+    actor_snapshots: &'a [ActorSnapshot],
     from: u32,
 }
 
 impl<'a> Rows for ActorRows<'a> {
-    ghost is_row = { λ a n. n < length a.glances.now };
+    ghost is_row = { λ a n. n < length a.actor_snapshots.now };
 
-    ghost row_of = { λ a n. option_map (actor_told a.names.now a.version.now (a.from + n)) (slice_get a.glances.now n) };
+    ghost row_of = { λ a n. option_map (actor_told a.names.now a.version.now (a.from + n)) (slice_get a.actor_snapshots.now n) };
 
     fn row(&self, alloc: Global, number: u32) -> Result<Option<Told>, AllocError> {
-        let glance = self.glances[number as usize];
+        let actor_snapshot = self.actor_snapshots[number as usize];
         let place = u64::from(self.from) + u64::from(number);
-        Ok(Some(actor(alloc, self.names, self.version, place, glance)?))
+        Ok(Some(actor(alloc, self.names, self.version, place, actor_snapshot)?))
     }
 }
 
 /// What is told of the actors that are seen, of which the first has the number `from`.
-pub(crate) fn actors(alloc: Global, sight: &Sight, from: u32) -> Result<Told, AllocError>
-    ensures { IfOk result (λ told. view told ≡ actors_told sight.now from) }
+pub(crate) fn actors(alloc: Global, snapshot: &Snapshot, from: u32) -> Result<Told, AllocError>
+    ensures { IfOk result (λ told. view told ≡ actors_told snapshot.now from) }
 {
     let rows = ActorRows {
-        names: &sight.names,
-        version: sight.table.shown(),
-        glances: &sight.glances,
+        names: &snapshot.names,
+        version: snapshot.table.shown(),
+        actor_snapshots: &snapshot.actor_snapshots,
         from,
     };
     let mut members = Members::new(alloc);
     members.put(
         alloc,
         "actors",
-        list(alloc, &rows, 0, sight.glances.len() as u32)?,
+        list(alloc, &rows, 0, snapshot.actor_snapshots.len() as u32)?,
     )?;
-    members.put(alloc, "count", Told::whole(sight.actors.into()))?;
+    members.put(alloc, "count", Told::whole(snapshot.actors.into()))?;
     Ok(members.told())
 }

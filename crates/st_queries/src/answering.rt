@@ -17,7 +17,7 @@ use crate::methods::methods;
 use crate::offsets::offsets;
 use crate::resolving::{class_of, selector_of};
 use crate::senders::senders;
-use crate::sights::Sight;
+use crate::snapshots::Snapshot;
 use crate::sources::source;
 use crate::status::status;
 use crate::values::Table;
@@ -28,12 +28,16 @@ use st_wire::told::Told;
 use std::alloc::{AllocError, Global};
 
 /// The offsets that are told of the frames of a turn that failed, where that is asked for.
-fn offsets_for(alloc: Global, sight: &Sight, query: &Query) -> Result<Vec<Option<u16>>, AllocError>
-    ensures { OnErr result ((host : Host) (offsets : List (Option ℕ)) → IsAnswer (told_of sight.now host offsets query.now) (Err NoMemory)) }
+fn offsets_for(
+    alloc: Global,
+    snapshot: &Snapshot,
+    query: &Query,
+) -> Result<Vec<Option<u16>>, AllocError>
+    ensures { OnErr result ((host : Host) (offsets : List (Option ℕ)) → IsAnswer (told_of snapshot.now host offsets query.now) (Err NoMemory)) }
 {
-    match (query, &sight.ending) {
+    match (query, &snapshot.ending) {
         (Query::Fault { actor: _, turn: _ }, Some(Ending::Failed(failing))) => {
-            offsets(alloc, sight.table.shown(), &failing.body.phase)
+            offsets(alloc, snapshot.table.shown(), &failing.body.phase)
         }
         _ => Ok(Vec::new(alloc)),
     }
@@ -42,15 +46,15 @@ fn offsets_for(alloc: Global, sight: &Sight, query: &Query) -> Result<Vec<Option
 /// What is answered to a query, where these offsets are told.
 fn answer_at(
     alloc: Global,
-    sight: &Sight,
+    snapshot: &Snapshot,
     host: Host,
     offsets: &[Option<u16>],
     query: &Query,
 ) -> Result<Told, Refusal>
-    ensures { IsAnswer (told_of sight.now host offsets.now query.now) result }
+    ensures { IsAnswer (told_of snapshot.now host offsets.now query.now) result }
 {
-    let names = &sight.names;
-    let version = sight.table.shown();
+    let names = &snapshot.names;
+    let version = snapshot.table.shown();
     match query {
         Query::Classes => Ok(classes(alloc, version)?),
         Query::Methods { class } => {
@@ -81,16 +85,16 @@ fn answer_at(
             }
             Ok(edits(alloc, names, version, *from)?)
         }
-        Query::Actors { from, most: _ } => Ok(actors(alloc, sight, *from)?),
-        Query::Inspect { actor: _ } => match &sight.inspected {
+        Query::Actors { from, most: _ } => Ok(actors(alloc, snapshot, *from)?),
+        Query::Inspect { actor: _ } => match &snapshot.inspected {
             Some(seen) => Ok(tell_inspected(alloc, Table { names, version }, seen)?),
             None => Err(Refusal::UnknownActor),
         },
         Query::Fault { actor: _, turn: _ } => {
-            tell_ending(alloc, Table { names, version }, offsets, &sight.ending)
+            tell_ending(alloc, Table { names, version }, offsets, &snapshot.ending)
         }
-        Query::Faults { after: _ } => Ok(faults(alloc, &sight.failed, sight.counts.steps)?),
-        Query::Status => Ok(status(alloc, sight, host)?),
+        Query::Faults { after: _ } => Ok(faults(alloc, &snapshot.failed, snapshot.counts.steps)?),
+        Query::Status => Ok(status(alloc, snapshot, host)?),
     }
 }
 
@@ -101,11 +105,16 @@ fn answer_at(
 /// no class has. `BadArguments` says that there are fewer edits than are to be left out, and `UnknownActor` that no actor has a number.
 ///
 /// Where in their sources the sends of a turn's frames stand is told as far as it is known.
-pub fn answer(alloc: Global, sight: &Sight, host: Host, query: &Query) -> Result<Told, Refusal>
-    ensures { IsAnswerForSome (λ offsets. told_of sight.now host offsets query.now) result }
+pub fn answer(
+    alloc: Global,
+    snapshot: &Snapshot,
+    host: Host,
+    query: &Query,
+) -> Result<Told, Refusal>
+    ensures { IsAnswerForSome (λ offsets. told_of snapshot.now host offsets query.now) result }
 {
-    match offsets_for(alloc, sight, query) {
-        Ok(offsets) => answer_at(alloc, sight, host, offsets.as_slice(), query),
+    match offsets_for(alloc, snapshot, query) {
+        Ok(offsets) => answer_at(alloc, snapshot, host, offsets.as_slice(), query),
         Err(_) => Err(Refusal::NoMemory),
     }
 }

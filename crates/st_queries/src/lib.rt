@@ -1,9 +1,10 @@
 //! Queries: what an image answers to a question about it. A query changes nothing, and its answer is a plain function of the image.
 //!
-//! What a query needs is copied from the image first ([`sights::see`]), and it is answered from that ([`answering::answer`]), which
+//! What a query needs is copied from the image first ([`snapshots::see`]), and it is answered from that ([`answering::answer`]), which
 //! takes longer. [`replying`] makes replies of the answers. Each query has a file of its own. Most answers are lists, which are told row by row, by number ([`listing`]).
 #![tactic(auto)]
 
+pub mod actor_snapshots;
 mod actors;
 pub mod answering;
 mod bodies;
@@ -12,7 +13,6 @@ mod edits;
 pub mod endings;
 pub mod failed_turns;
 mod failing;
-pub mod glances;
 pub mod hosts;
 mod implementors;
 pub mod inspecting;
@@ -27,7 +27,7 @@ pub mod replying;
 mod resolving;
 mod senders;
 mod sent;
-pub mod sights;
+pub mod snapshots;
 mod sources;
 mod status;
 mod texts;

@@ -7,7 +7,7 @@ ghost use Rattle.st_queries.specs.Replying.{Looks, Says, TellsOf, TellsSeen};
 
 use crate::answering::answer;
 use crate::hosts::Host;
-use crate::sights::{Sight, see};
+use crate::snapshots::{Snapshot, see};
 use st_classes::refusals::Refusal;
 use st_image::image::Image;
 use st_mailbox::mailboxes::Mailbox;
@@ -31,19 +31,24 @@ fn reply_of(alloc: Global, answered: Result<Told, Refusal>) -> Reply
 }
 
 /// The reply to a query, from what was seen for it.
-pub fn tell(alloc: Global, sight: &Sight, host: Host, query: &Query) -> Reply
-    ensures { TellsOf sight.now host query.now result }
+pub fn tell(alloc: Global, snapshot: &Snapshot, host: Host, query: &Query) -> Reply
+    ensures { TellsOf snapshot.now host query.now result }
 {
-    let answered = answer(alloc, sight, host, query);
+    let answered = answer(alloc, snapshot, host, query);
     reply_of(alloc, answered)
 }
 
 /// The same; or that there was no memory to see what it needs.
-pub fn tell_seen(alloc: Global, seen: Result<Sight, AllocError>, host: Host, query: Query) -> Reply
+pub fn tell_seen(
+    alloc: Global,
+    seen: Result<Snapshot, AllocError>,
+    host: Host,
+    query: Query,
+) -> Reply
     ensures { TellsSeen seen host query result }
 {
     match seen {
-        Ok(sight) => tell(alloc, &sight, host, &query),
+        Ok(snapshot) => tell(alloc, &snapshot, host, &query),
         Err(_) => Reply::Refused(Refusal::NoMemory),
     }
 }

@@ -14,7 +14,7 @@ use Rattle.st_reader.specs.declared.inlining.Inlining.{Inlining}
 use Rattle.st_reader.specs.declared.rules.alone.Alone.{Alone as Sort}
 use Rattle.st_reader.specs.Syntax.{Expression, Message, Statements, keywords}
 use Rattle.st_reader.specs.TreeViews.{chain_view, message_view, parts_of, seen_parts, further_of, seen_further, message_step, operand_step, chain_step, expression_step, statements_step}
-use Rattle.st_reader.specs.Inlining.{is_block, is_loose, is_loop, suits_receiver, part_texts, part_arguments, inlining}
+use Rattle.st_reader.specs.Inlining.{is_block, is_loose, is_loop, suits_receiver, keyword_names, part_arguments, inlining}
 use Rattle.st_reader.specs.WellFormed.{arguments, further_arguments}
 use Rattle.st_reader.specs.ExpressionKinds.{expression_kind}
 use Rattle.st_reader.proofs.Alone.{is_block_alone, is_loose_alone, block_alone, loose_alone}
@@ -35,7 +35,7 @@ any_loose (p ∷ ps) = ap (λ b. is_loose (chain_view p.1) || b) (any_loose ps)
 
 -- ---- which messages are inlined
 
-pub inlining_many : (ps : List (Name × Chain)) → 3 ≤ length ps → inlining (part_texts (parts_of (seen_parts ps))) ≡ None
+pub inlining_many : (ps : List (Name × Chain)) → 3 ≤ length ps → inlining (keyword_names (parts_of (seen_parts ps))) ≡ None
 inlining_many [] h = refl
 inlining_many (a ∷ []) h = absurd (omega arith)
 inlining_many (a ∷ b ∷ []) h = absurd (omega arith)

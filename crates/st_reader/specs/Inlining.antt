@@ -71,9 +71,9 @@ suits_receiver (Some i) e = by_loop (is_loop i)
     by_loop false = not (is_loose e)
 
 -- the keywords of a message
-abbrev pub part_texts : Parts → List (List ℕ)
-part_texts no_parts = []
-part_texts (part n e ps) = n.text ∷ part_texts ps
+abbrev pub keyword_names : Parts → List (List ℕ)
+keyword_names no_parts = []
+keyword_names (part n e ps) = n.text ∷ keyword_names ps
 
 -- the arguments of keywords
 abbrev pub part_arguments : Parts → List Expression
@@ -82,5 +82,5 @@ part_arguments (part n e ps) = e ∷ part_arguments ps
 
 -- a message is inlined if each argument is a block, and its receiver is of the right sort
 abbrev pub is_inlined : Expression → Message → Bool
-is_inlined e (keywords ps) = suits_receiver (inlining (part_texts ps)) e && list_all is_block (part_arguments ps)
+is_inlined e (keywords ps) = suits_receiver (inlining (keyword_names ps)) e && list_all is_block (part_arguments ps)
 is_inlined e _ = false

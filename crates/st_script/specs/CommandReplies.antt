@@ -24,8 +24,8 @@ use Rattle.st_calls.specs.declared.calls.Call.{Call}
 use Rattle.st_calls.specs.Does.{Does}
 use Rattle.st_script.specs.ArgumentValues.{is_told_by_text, value_text}
 use Rattle.st_script.specs.CallOf.{Makes}
-use Rattle.st_file.specs.Moments.{moment_of}
-use Rattle.st_script.specs.Keepers.{SavesMoment}
+use Rattle.st_file.specs.ImageSnapshots.{snapshot_of}
+use Rattle.st_script.specs.Keepers.{SavesSnapshot}
 use Rattle.st_script.specs.Posting.{Nothing, PostsNamed}
 use Rattle.st_script.specs.Replacing.{Replaces}
 
@@ -107,5 +107,5 @@ Runs quantum (suc left) i q s r j = (NoneReady i × (r ≡ reply.Ran q s) × (j 
 -- alone, and leaves the worker as it is
 abbrev pub Serves : ℕ → RunnerView → Command → Reply → RunnerView → Type 0
 Serves quantum i (command.Run quanta) r j = Runs quantum quanta i 0 0 r j
-Serves quantum i command.Save r j = SavesMoment (moment_of i.image) r × (j ≡ i)
+Serves quantum i command.Save r j = SavesSnapshot (snapshot_of i.image) r × (j ≡ i)
 Serves quantum i c r j = AsksImage i.image c r j.image × (j.caches ≡ i.caches)

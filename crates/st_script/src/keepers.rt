@@ -1,11 +1,11 @@
 //! Who keeps the images that are saved.
 ghost use Rattle.std.specs.Prelude.{◌≡◌, IfErr, IfOk};
-ghost use Rattle.st_script.specs.Keepers.{IsFault, Replaces, SavesMoment, SavesSeen};
-ghost use Rattle.st_file.specs.Moments.{moment_of};
+ghost use Rattle.st_script.specs.Keepers.{IsFault, Replaces, SavesSnapshot, SavesSeen};
+ghost use Rattle.st_file.specs.ImageSnapshots.{snapshot_of};
 
 use crate::images::Image;
 use st_classes::refusals::Refusal;
-use st_file::moments::Moment;
+use st_file::image_snapshots::ImageSnapshot;
 use st_wire::replies::Reply;
 use std::alloc::Global;
 
@@ -40,8 +40,8 @@ pub trait Keeper: JournalWriter {
     /// then.
     ///
     /// Refusals: `BadArguments` if there is no place for it, `NoMemory`, `WriteFault`.
-    fn write(&self, alloc: Global, moment: &Moment) -> Result<u64, Refusal>
-        ensures { Keeps moment.now result };
+    fn write(&self, alloc: Global, snapshot: &ImageSnapshot) -> Result<u64, Refusal>
+        ensures { Keeps snapshot.now result };
 
     /// Keeps the image that was written last in place of the one that was kept before. If there is a journal, it begins anew with what
     /// stands there behind so many bytes; until then nothing may be appended. At `Ok` all of that is on the disk.
@@ -78,7 +78,7 @@ impl JournalWriter for Nobody {
 }
 
 impl Keeper for Nobody {
-    fn write(&self, _alloc: Global, _moment: &Moment) -> Result<u64, Refusal> {
+    fn write(&self, _alloc: Global, _snapshot: &ImageSnapshot) -> Result<u64, Refusal> {
         Err(Refusal::BadArguments)
     }
 
@@ -102,11 +102,15 @@ impl Keeper for Nobody {
 }
 
 /// The reply to one who wants an image saved, as it was at a moment, once that is written; or why it was not copied.
-pub fn written<S: Keeper>(alloc: Global, keeper: &S, moment: Result<Moment, Refusal>) -> Reply
-    ensures { SavesSeen moment result }
+pub fn written<S: Keeper>(
+    alloc: Global,
+    keeper: &S,
+    snapshot: Result<ImageSnapshot, Refusal>,
+) -> Reply
+    ensures { SavesSeen snapshot result }
 {
-    match moment {
-        Ok(moment) => match keeper.write(alloc, &moment) {
+    match snapshot {
+        Ok(snapshot) => match keeper.write(alloc, &snapshot) {
             Ok(bytes) => Reply::Saved(bytes),
             Err(refusal) => Reply::Refused(refusal),
         },
@@ -128,22 +132,22 @@ pub fn replaced<S: Keeper>(alloc: Global, keeper: &S, from: u64, reply: Reply) -
 }
 
 /// What an image is now, or that there was no memory to copy that.
-pub fn copied(alloc: Global, image: &Image) -> Result<Moment, Refusal>
-    ensures moment { IfOk result (λ m. m ≡ moment_of image.now) }
+pub fn copied(alloc: Global, image: &Image) -> Result<ImageSnapshot, Refusal>
+    ensures snapshot { IfOk result (λ m. m ≡ snapshot_of image.now) }
     ensures fault { IfErr result IsFault }
 {
-    match Moment::of(alloc, image) {
-        Ok(moment) => Ok(moment),
+    match ImageSnapshot::of(alloc, image) {
+        Ok(snapshot) => Ok(snapshot),
         Err(_) => Err(Refusal::NoMemory),
     }
 }
 
 /// The reply to one who wants an image saved as it is.
 pub(crate) fn save<S: Keeper>(alloc: Global, keeper: &S, image: &Image) -> Reply
-    ensures { SavesMoment (moment_of image.now) result }
+    ensures { SavesSnapshot (snapshot_of image.now) result }
 {
-    let moment = copied(alloc, image);
-    let reply = written(alloc, keeper, moment);
+    let snapshot = copied(alloc, image);
+    let reply = written(alloc, keeper, snapshot);
     let reply = replaced(alloc, keeper, keeper.end(), reply);
     keeper.report_error();
     reply

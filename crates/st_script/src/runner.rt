@@ -13,7 +13,7 @@ use st_calls::claims;
 use st_classes::refusals::Refusal;
 use st_classes::values::ActorId;
 use st_guard::caches::Caches;
-use st_image::leavings::Leavings;
+use st_image::recycled::Recycled;
 use st_queries::hosts::Host;
 use st_turn::body::Stop;
 use st_turn::claim::Claim;
@@ -29,7 +29,7 @@ pub struct Runner {
     image: Image,
     worker: Worker,
     /// What the last commit left, for the next checkout.
-    leavings: Leavings,
+    recycled: Recycled,
     /// What is known of the program.
     host: Host,
 }
@@ -70,7 +70,7 @@ fn work(
     worker: &mut Worker,
     mut claim: Claim,
     quantum: Quantum,
-    leavings: &mut Leavings,
+    recycled: &mut Recycled,
 ) -> Result<u32, Refusal>
     requires follows { IfSome worker.old.kept (λ k. Begins k claim.edits) }
     requires fits { FitsClaim image.old claim }
@@ -80,7 +80,7 @@ fn work(
 {
     let ran = worker.run_unchecked(alloc, &mut claim, quantum.steps());
     claim.known();
-    let settled = claims::settle(alloc, image, claim, true, leavings);
+    let settled = claims::settle(alloc, image, claim, true, recycled);
     answer(ran, settled)
 }
 
@@ -103,7 +103,7 @@ impl Runner {
             Ok(worker) => Ok(Runner {
                 image,
                 worker,
-                leavings: Leavings::none(),
+                recycled: Recycled::none(),
                 host: Host {
                     start,
                     checkpoints: 0,
@@ -146,8 +146,8 @@ impl Runner {
         ensures some { IfOk result (λ n. 1 ≤ n) }
     {
         self.image.known();
-        let claim = claims::check_out(alloc, &mut self.image, actor, &mut self.leavings)?;
-        self.leavings.let_go();
+        let claim = claims::check_out(alloc, &mut self.image, actor, &mut self.recycled)?;
+        self.recycled.let_go();
         self.image.known();
         let result = work(
             alloc,
@@ -155,7 +155,7 @@ impl Runner {
             &mut self.worker,
             claim,
             quantum,
-            &mut self.leavings,
+            &mut self.recycled,
         );
         self.image.known();
         result

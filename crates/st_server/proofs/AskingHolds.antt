@@ -19,7 +19,7 @@ use Rattle.st_pool.specs.Holds.{IsHold, of_caller}
 use Rattle.st_pool.proofs.Calling.{calls_hold}
 use Rattle.st_pool.proofs.Holding.{hold_none, hold_then}
 use Rattle.st_queries.specs.declared.hosts.Host.{Host}
-use Rattle.st_queries.specs.Sights.{Sight, sight}
+use Rattle.st_queries.specs.Snapshots.{Snapshot, snapshot}
 use Rattle.st_wire.specs.declared.queries.Query.{Query}
 use Rattle.st_wire.specs.declared.commands.Argument.{Argument}
 use Rattle.st_wire.specs.declared.commands.Argument.TheVariants as argument
@@ -103,7 +103,7 @@ asks_hold host o p d e (command.Query q) r h = hold_none of_caller o p h.1.0
 asks_hold host o p d e c r h = makes_hold o p d e c r h
 
 -- a query is answered from what was seen of an image in a hold that changed nothing
-told_asks : (host : Host) (o p : PoolView) (d e : Done) (q : Query) (s : Sight) (r : Reply) → s ≡ sight o.image q → p ≡ o → e ≡ d → TellsOf s host q r → AsksInHold o d (command.Query q) r p e
+told_asks : (host : Host) (o p : PoolView) (d e : Done) (q : Query) (s : Snapshot) (r : Reply) → s ≡ snapshot o.image q → p ≡ o → e ≡ d → TellsOf s host q r → AsksInHold o d (command.Query q) r p e
 told_asks host o p d e q s r same stays mine told = record {
   host = host;
   asks = (inl (subst (λ t. TellsOf t host q r) same told), (stays, mine));
@@ -117,6 +117,6 @@ unseen_asks host o p d e q r stays mine none = record {
   hold = hold_none of_caller o p stays;
 }
 
-pub seen_asks : (host : Host) (o p : PoolView) (d e : Done) (q : Query) (s : Result Sight AllocError) (r : Reply) → SeesInHold o d q s p e → TellsSeen s host q r → AsksInHold o d (command.Query q) r p e
+pub seen_asks : (host : Host) (o p : PoolView) (d e : Done) (q : Query) (s : Result Snapshot AllocError) (r : Reply) → SeesInHold o d q s p e → TellsSeen s host q r → AsksInHold o d (command.Query q) r p e
 seen_asks host o p d e q (Ok s) r h told = told_asks host o p d e q s r h.0 h.1 h.2 told
 seen_asks host o p d e q (Err f) r h none = unseen_asks host o p d e q r h.1 h.2 none

@@ -15,7 +15,7 @@ use crate::recording::Recorder;
 use crate::starts::ServerInfo;
 use crate::waits::TurnEnd;
 use st_classes::refusals::Refusal;
-use st_file::moments::Moment;
+use st_file::image_snapshots::ImageSnapshot;
 use st_pool::callers::Caller;
 use st_pool::holds::Job;
 use st_pool::naming::Naming;
@@ -23,7 +23,7 @@ use st_pool::pool_state::PoolState;
 use st_pool::shares::CallerShare;
 use st_queries::hosts::Host;
 use st_queries::replying::tell_seen;
-use st_queries::sights::{Sight, see};
+use st_queries::snapshots::{Snapshot, see};
 use st_script::asking::ask;
 use st_script::images::Mailbox;
 use st_script::keepers::{Keeper, copied, replaced, written};
@@ -75,7 +75,7 @@ struct Seeing<'a> {
 impl<'a, K: Naming> Job<K, Mailbox> for Seeing<'a> {
     ghost use Rattle.st_server.specs.PoolReplies.{SeesInHold};
 
-    type Out = (Result<Sight, AllocError>, u64);
+    type Out = (Result<Snapshot, AllocError>, u64);
 
     ghost done = { λ s o d r p e. SeesInHold o d s.query.now r.0 p e };
 
@@ -84,7 +84,7 @@ impl<'a, K: Naming> Job<K, Mailbox> for Seeing<'a> {
         alloc: Global,
         pool: &mut PoolState<K, Mailbox>,
         _mine: &mut CallerShare<K>,
-    ) -> (Result<Sight, AllocError>, u64) {
+    ) -> (Result<Snapshot, AllocError>, u64) {
         (see(alloc, pool.image(), self.query), pool.checkpoints())
     }
 }
@@ -96,7 +96,7 @@ struct Copying;
 impl<K: Naming> Job<K, Mailbox> for Copying {
     ghost use Rattle.st_server.specs.PoolReplies.{CopiesInHold};
 
-    type Out = Result<Moment, Refusal>;
+    type Out = Result<ImageSnapshot, Refusal>;
 
     ghost done = { λ s o d r p e. CopiesInHold o d r p e };
 
@@ -105,7 +105,7 @@ impl<K: Naming> Job<K, Mailbox> for Copying {
         alloc: Global,
         pool: &mut PoolState<K, Mailbox>,
         _mine: &mut CallerShare<K>,
-    ) -> Result<Moment, Refusal> {
+    ) -> Result<ImageSnapshot, Refusal> {
         copied(alloc, pool.image())
     }
 }
@@ -167,7 +167,7 @@ impl<'a, R: Wait + Clock, K: Naming, S: Keeper> PoolHandler<'a, R, K, S> {
         &mut self,
         alloc: Global,
         progress: &mut Progress,
-    ) -> (Result<Moment, Refusal>, Option<u64>)
+    ) -> (Result<ImageSnapshot, Refusal>, Option<u64>)
         ensures copies { CopiesFound K.start K.first self.old result.0 self.new }
         ensures same { self.new ≡ self.old }
     {
@@ -179,7 +179,7 @@ impl<'a, R: Wait + Clock, K: Naming, S: Keeper> PoolHandler<'a, R, K, S> {
     }
 
     /// What the image is now, and where the journal ends that tells all that led there, if there is one.
-    fn copy(&mut self, alloc: Global) -> (Result<Moment, Refusal>, u64)
+    fn copy(&mut self, alloc: Global) -> (Result<ImageSnapshot, Refusal>, u64)
         ensures { CopiesFound K.start K.first self.old result.0 self.new }
     {
         let recorder = self.services.recorder;
@@ -188,9 +188,9 @@ impl<'a, R: Wait + Clock, K: Naming, S: Keeper> PoolHandler<'a, R, K, S> {
         }
         let mut progress = recorder.lock(self.rt);
         for _ in 0..COPIES {
-            let (moment, end) = self.copy_behind(alloc, &mut progress);
+            let (snapshot, end) = self.copy_behind(alloc, &mut progress);
             if let Some(end) = end {
-                return (moment, end);
+                return (snapshot, end);
             }
         }
         let (_, _) = self.copy_behind(alloc, &mut progress);
@@ -213,8 +213,8 @@ impl<'a, R: Wait + Clock, K: Naming, S: Keeper> PoolHandler<'a, R, K, S> {
         ensures { Attends K.start K.first self.old commands.Save result self.new }
     {
         let admitted = self.services.admission.save(self.rt);
-        let (moment, from) = self.copy(alloc);
-        let reply = written(alloc, self.services.keeper, moment);
+        let (snapshot, from) = self.copy(alloc);
+        let reply = written(alloc, self.services.keeper, snapshot);
         let reply = self.replace(alloc, from, reply);
         drop(admitted);
         self.services.keeper.report_error();

@@ -1,12 +1,12 @@
 //! What has happened to a served image, read in short holds of its lock.
 ghost use Rattle.std.specs.Prelude.{◌≡◌, IfErr, IfOk};
-ghost use Rattle.st_file.specs.Moments.{moment_of};
+ghost use Rattle.st_file.specs.ImageSnapshots.{snapshot_of};
 ghost use Rattle.st_script.specs.Keepers.{IsFault};
 
 use st_classes::names::Names;
 use st_classes::refusals::Refusal;
 use st_classes::token::Token;
-use st_file::moments::Moment;
+use st_file::image_snapshots::ImageSnapshot;
 use st_image::items::Item;
 use st_journal::copying::copied_items;
 use st_pool::holds::Reading;
@@ -115,7 +115,7 @@ fn is_all(read: &Result<Read, AllocError>) -> bool {
 }
 
 /// What was copied, and what was read.
-pub(crate) type Copied = (Result<Moment, Refusal>, Result<Read, AllocError>);
+pub(crate) type Copied = (Result<ImageSnapshot, Refusal>, Result<Read, AllocError>);
 
 impl CopyingBehind {
     /// Both, in a hold of the lock.
@@ -125,7 +125,7 @@ impl CopyingBehind {
         pool: &mut PoolState<K, Mailbox>,
     ) -> Copied
         ensures same { pool.new ≡ pool.old }
-        ensures moment { IfOk result.0 (λ m. m ≡ moment_of pool.old.image) }
+        ensures snapshot { IfOk result.0 (λ m. m ≡ snapshot_of pool.old.image) }
         ensures fault { IfErr result.0 IsFault }
     {
         let read = self.behind.read_in(alloc, pool);

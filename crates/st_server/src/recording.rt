@@ -8,7 +8,7 @@ use crate::admission::Admission;
 use crate::progress::Progress;
 use crate::readings::{Behind, Copied, CopyingBehind, Read};
 use st_classes::refusals::Refusal;
-use st_file::moments::Moment;
+use st_file::image_snapshots::ImageSnapshot;
 use st_pool::naming::Naming;
 use st_pool::shared::Shared;
 use st_script::images::Mailbox;
@@ -323,12 +323,12 @@ impl<'a, K: Naming, S: Keeper> Recorder<'a, K, S> {
         progress: &mut Progress,
         told: Result<(), Refusal>,
         copied: Copied,
-    ) -> (Result<Moment, Refusal>, Option<u64>)
+    ) -> (Result<ImageSnapshot, Refusal>, Option<u64>)
         ensures { StaysOrFails copied.0 result.0 }
     {
-        let (moment, read) = copied;
+        let (snapshot, read) = copied;
         match self.write_read(alloc, progress, told, read) {
-            Ok(end) => (moment, end),
+            Ok(end) => (snapshot, end),
             Err(refusal) => (Err(as_fault(refusal)), Some(0)),
         }
     }
@@ -428,17 +428,17 @@ impl<'a, K: Naming, S: Keeper> Recorder<'a, K, S> {
     }
 
     /// What the image is now, and where the journal ends that tells all that led there.
-    fn copy<R: Wait>(&self, rt: &R, alloc: Global) -> Result<(Moment, u64), Refusal> {
+    fn copy<R: Wait>(&self, rt: &R, alloc: Global) -> Result<(ImageSnapshot, u64), Refusal> {
         let mut progress = self.progress.lock(rt);
         for _ in 0..COPIES {
             let told = self.round_before_copying(rt, alloc, &mut progress);
             let behind = self.behind(&progress);
             let copied = self.shared.read(rt, alloc, CopyingBehind { behind });
-            let (moment, read) = copied;
+            let (snapshot, read) = copied;
             let end = self.write_read(alloc, &mut progress, told, read)?;
-            let moment = moment?;
+            let snapshot = snapshot?;
             if let Some(end) = end {
-                return Ok((moment, end));
+                return Ok((snapshot, end));
             }
         }
         Err(Refusal::NoMemory)
@@ -446,8 +446,8 @@ impl<'a, K: Naming, S: Keeper> Recorder<'a, K, S> {
 
     /// Has the image written and kept.
     fn keep<R: Wait>(&self, rt: &R, alloc: Global) -> Result<(), Refusal> {
-        let (moment, from) = self.copy(rt, alloc)?;
-        self.keeper.write(alloc, &moment)?;
+        let (snapshot, from) = self.copy(rt, alloc)?;
+        self.keeper.write(alloc, &snapshot)?;
         let progress = self.progress.lock(rt);
         let replaced = self.keeper.replace(alloc, from);
         drop(progress);

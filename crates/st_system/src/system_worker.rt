@@ -20,7 +20,7 @@ use st_classes::values::ActorId;
 use st_classes::version::Version;
 use st_guard::guard::Guard;
 use st_image::image::Image;
-use st_image::leavings::Leavings;
+use st_image::recycled::Recycled;
 use st_mailbox::mailboxes::Mailbox;
 use st_turn::claim::Claim;
 use st_turn::worker::Worker;
@@ -117,7 +117,7 @@ impl<G: Guard> SystemWorker<G> {
         if self.claim.is_some() {
             return Err(Refusal::BadArguments);
         }
-        let claim = claims::check_out(alloc, image, actor, &mut Leavings::none())?;
+        let claim = claims::check_out(alloc, image, actor, &mut Recycled::none())?;
         self.claim = Some(claim);
         Ok(Answer::Done)
     }
@@ -150,7 +150,7 @@ impl<G: Guard> SystemWorker<G> {
         let Some(claim) = self.claim.take() else {
             return Err(Refusal::NothingToDo);
         };
-        match claims::commit(alloc, image, claim, &mut Leavings::none()) {
+        match claims::commit(alloc, image, claim, &mut Recycled::none()) {
             Ok(steps) => Ok(Answer::Steps(steps)),
             Err((refusal, back)) => {
                 self.claim = back;

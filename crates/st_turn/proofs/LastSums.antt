@@ -10,46 +10,46 @@ use Rattle.st_classes.specs.declared.keys.SiteId.{SiteId}
 use Rattle.st_guard.specs.SiteTables.{is_site}
 use Rattle.st_guard.proofs.Numbering.{site_is}
 use Rattle.st_turn.specs.declared.sums.SiteSum.{SiteSum}
-use Rattle.st_turn.specs.Tallies.{AreLast, IsLastOf, no_sum, seat}
+use Rattle.st_turn.specs.Tallies.{AreLast, IsLastOf, no_sum, bucket}
 
 no_other : (b : Bool) → (b ≡ true → ⊥) → b ≡ false
 no_other true h = absurd (h refl)
 no_other false h = refl
 
--- the sum at the place that is kept for a seat is the last of its site
-pub is_last : (lasts : List ℕ) (id : SiteId) (ms : List SiteSum) (i : ℕ) → AreLast lasts ms → i ≡ slice_index_or lasts (seat id) 0 → i < length ms → is_site id (slice_index_or ms i no_sum).site ≡ true → IsLastOf id ms i
+-- the sum at the place that is kept for a bucket is the last of its site
+pub is_last : (lasts : List ℕ) (id : SiteId) (ms : List SiteSum) (i : ℕ) → AreLast lasts ms → i ≡ slice_index_or lasts (bucket id) 0 → i < length ms → is_site id (slice_index_or ms i no_sum).site ≡ true → IsLastOf id ms i
 is_last lasts id ms i last e h here = record {
   within = h;
   here = here;
   last = λ k d low high. no_other (is_site id (slice_index_or ms k d).site) (λ f.
       let same : id ≡ (slice_index_or ms k no_sum).site = site_is id (slice_index_or ms k d).site f ∙ ap (λ (m : SiteSum). m.site) (get_or_default ms k d no_sum high) in
-      let before : k ≤ slice_index_or lasts (seat id) 0 = subst (λ (x : SiteId). k ≤ slice_index_or lasts (seat x) 0) (sym same) (last.last k high) in
+      let before : k ≤ slice_index_or lasts (bucket id) 0 = subst (λ (x : SiteId). k ≤ slice_index_or lasts (bucket x) 0) (sym same) (last.last k high) in
       omega (arith, e));
 }
 
 -- a place that is kept in the place of one that is no greater
-kept_more : (lasts : List ℕ) (seat r i n : ℕ) → seat < length lasts → i ≤ n → (r ≢ seat → i ≤ slice_index_or lasts r 0) → i ≤ slice_index_or (slice_set lasts seat n) r 0
-kept_more lasts seat r i n within h others = (elim (r == seat) as (λ b. (r == seat) ≡ b → i ≤ slice_index_or (slice_set lasts seat n) r 0) [
-  | true ↦ λ e. omega (arith, h, get_or-set_at lasts seat r n 0 (eqb-true r seat e) within)
-  | false ↦ λ e. omega (arith, get_or-set_other lasts seat r n 0 (eqb-false r seat e), others (eqb-false r seat e))
+kept_more : (lasts : List ℕ) (bucket r i n : ℕ) → bucket < length lasts → i ≤ n → (r ≢ bucket → i ≤ slice_index_or lasts r 0) → i ≤ slice_index_or (slice_set lasts bucket n) r 0
+kept_more lasts bucket r i n within h others = (elim (r == bucket) as (λ b. (r == bucket) ≡ b → i ≤ slice_index_or (slice_set lasts bucket n) r 0) [
+  | true ↦ λ e. omega (arith, h, get_or-set_at lasts bucket r n 0 (eqb-true r bucket e) within)
+  | false ↦ λ e. omega (arith, get_or-set_other lasts bucket r n 0 (eqb-false r bucket e), others (eqb-false r bucket e))
 ]) refl
 
 -- a sum more, whose place is kept
-pub last_pushed : (lasts : List ℕ) (ms : List SiteSum) (m : SiteSum) → AreLast lasts ms → AreLast (slice_set lasts (seat m.site) (length ms)) (ms ++ m ∷ [])
+pub last_pushed : (lasts : List ℕ) (ms : List SiteSum) (m : SiteSum) → AreLast lasts ms → AreLast (slice_set lasts (bucket m.site) (length ms)) (ms ++ m ∷ [])
 last_pushed lasts ms m h =
-    let s = seat m.site in
+    let s = bucket m.site in
     let within : s < length lasts = omega (arith, h.all, mod_below (m.site.method.0 * 167 + m.site.place) 512 (omega arith)) in
     record {
       all = length-set lasts s (length ms) ∙ h.all;
-      last = λ i less. (elim (nat_lt i (length ms)) as (λ b. nat_lt i (length ms) ≡ b → i ≤ slice_index_or (slice_set lasts s (length ms)) (seat (slice_index_or (ms ++ m ∷ []) i no_sum).site) 0) [
+      last = λ i less. (elim (nat_lt i (length ms)) as (λ b. nat_lt i (length ms) ≡ b → i ≤ slice_index_or (slice_set lasts s (length ms)) (bucket (slice_index_or (ms ++ m ∷ []) i no_sum).site) 0) [
         | true ↦ λ e.
             let low : i < length ms = ltb-true i (length ms) e in
             let here : slice_index_or ms i no_sum ≡ slice_index_or (ms ++ m ∷ []) i no_sum = sym (get_or_append_left ms (m ∷ []) no_sum i low) in
-            subst (λ (x : SiteSum). i ≤ slice_index_or (slice_set lasts s (length ms)) (seat x.site) 0) here (kept_more lasts s (seat (slice_index_or ms i no_sum).site) i (length ms) within (omega (arith, low)) (λ o. h.last i low))
+            subst (λ (x : SiteSum). i ≤ slice_index_or (slice_set lasts s (length ms)) (bucket x.site) 0) here (kept_more lasts s (bucket (slice_index_or ms i no_sum).site) i (length ms) within (omega (arith, low)) (λ o. h.last i low))
         | false ↦ λ e.
             let at : length ms ≡ i = omega (arith, ltb-false i (length ms) e, less, length-append ms (m ∷ [])) in
             let here : m ≡ slice_index_or (ms ++ m ∷ []) i no_sum = sym (get_or-append_seam ms m [] no_sum) ∙ ap (λ (k : ℕ). slice_index_or (ms ++ m ∷ []) k no_sum) at in
-            subst (λ (x : SiteSum). i ≤ slice_index_or (slice_set lasts s (length ms)) (seat x.site) 0) here (omega (arith, at, get_or-set_at lasts s s (length ms) 0 refl within))
+            subst (λ (x : SiteSum). i ≤ slice_index_or (slice_set lasts s (length ms)) (bucket x.site) 0) here (omega (arith, at, get_or-set_at lasts s s (length ms) 0 refl within))
       ]) refl;
     }
 
@@ -66,5 +66,5 @@ last_changed lasts ms i m e h = record {
             ap (λ (n : ℕ). (slice_index_or ms n no_sum).site) at ∙ sym e ∙ sym (ap (λ (x : SiteSum). x.site) (get_or-set_at ms i k m no_sum at within))
         | false ↦ λ f. sym (ap (λ (x : SiteSum). x.site) (get_or-set_other ms i k m no_sum (eqb-false k i f)))
       ]) refl in
-      subst (λ (id : SiteId). k ≤ slice_index_or lasts (seat id) 0) same (h.last k high);
+      subst (λ (id : SiteId). k ≤ slice_index_or lasts (bucket id) 0) same (h.last k high);
 }

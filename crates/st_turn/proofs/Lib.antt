@@ -28,7 +28,7 @@ pub mod WorkerSteps
 pub mod ActSites
 pub mod PushRows
 pub mod QuickRows
-pub mod QuickOperations
+pub mod QuickSuperinstructions
 pub mod QuickSteps
 pub mod ClaimBeginnings
 pub mod WorkerMoves

@@ -8,7 +8,7 @@ ghost use Rattle.st_turn.specs.Objects.{class_in};
 ghost use Rattle.st_turn.specs.Needs.{HasSlot, IsAmong};
 ghost use Rattle.st_turn.specs.Idle.{is_idle};
 
-mod plain_data;
+mod copying;
 
 use crate::stack::Stack;
 use st_classes::faults::Fault;

@@ -5,9 +5,9 @@ ghost use Rattle.st_turn.specs.BodyFits.{FitsSome};
 ghost use Rattle.st_turn.specs.Claims.{IsSound};
 ghost use Rattle.st_turn.specs.Steps.{is_outer, step};
 
+mod next_copy;
 pub(crate) mod stepping;
-mod twin;
-mod using;
+mod validation;
 
 use crate::acts::is_act_next;
 use crate::body::Body;
@@ -78,7 +78,7 @@ pub struct ClaimParts {
     /// A body that nothing reads, whose memory the body after may take.
     pub spare: Option<Body>,
     /// A second copy of the body to which the steps lead, if one was made since the last of them.
-    pub twin: Option<Body>,
+    pub next_copy: Option<Body>,
     pub steps: u32,
     pub sends: Sends,
     /// A number that identifies the body before, given by the maker of the claim.
@@ -110,12 +110,12 @@ fn begin_again(
     ensures steps { parts.new.steps ≡ 0 }
     ensures sends { parts.new.sends.items ≡ [] }
     ensures stamp { parts.new.stamp ≡ stamp }
-    ensures twin { parts.new.twin ≡ None }
+    ensures next_copy { parts.new.next_copy ≡ None }
 {
     let_go(&mut parts.spare);
     parts.spare = Some(std::mem::replace(&mut parts.before, body));
     let_go(&mut parts.after);
-    let_go(&mut parts.twin);
+    let_go(&mut parts.next_copy);
     parts.actor = actor;
     parts.steps = 0;
     parts.sends.clear();
@@ -163,7 +163,7 @@ impl Claim {
             before: body,
             after: None,
             spare: None,
-            twin: None,
+            next_copy: None,
             steps: 0,
             sends: Sends::new(alloc),
             stamp,
@@ -272,7 +272,7 @@ impl Claim {
         ensures stamp { IfOk result (λ r. r.0.value.stamp ≡ self.stamp) }
         ensures after { IfOk result (λ r. r.1 ≡ self.after) }
         ensures without { IfOk result (λ r. r.0.value.after ≡ None) }
-        ensures twin { IfOk result (λ r. IfSome r.0.value.twin (λ t. t ≡ self.after)) }
+        ensures next_copy { IfOk result (λ r. IfSome r.0.value.next_copy (λ t. t ≡ self.after)) }
         ensures back { IfErr result (λ c. c ≡ self) }
     {
         let Claim { mut parts } = self;
@@ -289,7 +289,7 @@ impl Claim {
     /// Puts the parts of a claim together again. No memory is taken.
     pub fn from_parts(mut parts: Box<ClaimParts>, after: Body) -> Claim
         requires sound { IsSound parts.value.actor parts.value.token parts.value.before after parts.value.steps parts.value.sends.items }
-        requires twin { IfSome parts.value.twin (λ t. t ≡ after) }
+        requires next_copy { IfSome parts.value.next_copy (λ t. t ≡ after) }
         ensures { result ≡ record { actor = parts.value.actor; edits = parts.value.token; before = parts.value.before; after = after; steps = parts.value.steps; sends = parts.value.sends.items; stamp = parts.value.stamp } }
     {
         parts.after = Some(after);

@@ -5,7 +5,7 @@
 //!
 //! A [`claim::Claim`] is a row of such steps that was taken apart from the image, and is sound by its type. A [`worker::Worker`] takes
 //! the steps of claims: it looks messages up in its caches, and the claim tells how each send was found. A claim
-//! [survives](claim::Claim::survives) the edits of selectors that its steps did not use: [`surviving`] has the law.
+//! [survives](claim::Claim::survives) the edits of selectors that its steps did not use: [`laws`] has the law.
 #![tactic(auto)]
 
 pub mod acts;
@@ -15,8 +15,9 @@ pub mod claim;
 mod finder;
 pub mod frame;
 mod general;
+pub mod ghost_list;
 pub mod kernel_methods;
-pub mod log;
+pub mod laws;
 pub mod lookup;
 pub mod plain;
 mod quick;
@@ -24,7 +25,6 @@ pub mod reruns;
 pub mod sends;
 pub mod stack;
 pub mod sums;
-pub mod surviving;
 pub mod tally;
 mod value_lists;
 pub mod worker;

@@ -67,7 +67,7 @@ impl Rerun {
         ensures { own_steps parts.value.token parts.value.actor steps parts.value.before ≡ Some result }
     {
         parts.spare = None;
-        parts.twin = None;
+        parts.next_copy = None;
         Rerun { parts, steps }
     }
 

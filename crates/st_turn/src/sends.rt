@@ -6,10 +6,10 @@ ghost use Rattle.std.specs.Prelude.{◌≡◌, ◌<◌, ◌+◌, ◌++◌, ◌^�
 ghost use Rattle.std.specs.Vec.{vec_len, vec_capacity};
 ghost use Rattle.std.specs.List.{slice_index_or};
 ghost use Rattle.std.specs.Option.{IfSome};
-ghost use Rattle.st_turn.specs.Tallies.{AddsSend, AreLast, AreSums, IsLastOf, no_sum, seat, sends_of, with_sent};
+ghost use Rattle.st_turn.specs.Tallies.{AddsSend, AreLast, AreSums, IsLastOf, no_sum, bucket, sends_of, with_sent};
 
 use crate::claim::Sent;
-use crate::log::Log;
+use crate::ghost_list::GhostList;
 use crate::sums::SiteSum;
 use st_classes::keys::SiteId;
 use st_guard::how::How;
@@ -31,10 +31,10 @@ const MORE: usize = 16;
 pub struct Sends {
     /// The sums, in the order in which their first sends came. If a site has several, the later ones have the later sends.
     sums: Vec<SiteSum>,
-    /// A hint for each seat: no sum of a site with this seat lies behind that place.
+    /// A hint for each bucket: no sum of a site with this bucket lies behind that place.
     lasts: [usize; SEATS],
     /// The sends themselves, for proofs.
-    all: Log<Sent>,
+    all: GhostList<Sent>,
 }
 
 impl Model for Sends {
@@ -49,16 +49,16 @@ impl Model for Sends {
     ghost invariant = { λ s. AreSums s.sums.items s.all.items × AreLast s.lasts s.sums.items };
 }
 
-/// The seat of a site. The sites of one method have different ones, if it has no more than 512 places.
+/// The bucket of a site. The sites of one method have different ones, if it has no more than 512 places.
 #[inline(always)]
 fn seat_of(site: SiteId) -> usize
-    ensures seat { result ≡ seat site }
+    ensures bucket { result ≡ bucket site }
     ensures few { result < 512 }
 {
     (site.method.0 as usize * 167 + site.place as usize) % SEATS
 }
 
-/// Where the last sum of a site lies, if the hint of its seat says so.
+/// Where the last sum of a site lies, if the hint of its bucket says so.
 #[inline(always)]
 fn place_of(sums: &[SiteSum], lasts: &[usize; SEATS], site: SiteId) -> Option<usize>
     requires { AreLast lasts.now sums.now }
@@ -120,7 +120,7 @@ impl Sends {
         Sends {
             sums: Vec::new(alloc),
             lasts: [0; SEATS],
-            all: Log::new(),
+            all: GhostList::new(),
         }
     }
 
@@ -129,7 +129,7 @@ impl Sends {
         ensures { self.new.items ≡ [] }
     {
         self.sums.clear();
-        self.all = Log::new();
+        self.all = GhostList::new();
     }
 
     /// Makes room for another sum.
@@ -152,7 +152,7 @@ impl Sends {
         self.sums.len() < self.sums.capacity()
     }
 
-    /// As `add`, for a site of which there is no hint: either it has no sum, or another site of its seat had a sum made since. What is
+    /// As `add`, for a site of which there is no hint: either it has no sum, or another site of its bucket had a sum made since. What is
     /// sent is passed in parts, so that it is not written to memory in the frequent case.
     #[cold]
     #[inline(never)]

@@ -9,9 +9,9 @@ use Rattle.serde_json.specs.Events.{members_len}
 use Rattle.serde_json.specs.Find.{get_member}
 use Rattle.serde_json.proofs.Views.{get_member-put, get_member-put_other}
 use Rattle.st_wire.specs.declared.commands.Argument.{Argument}
-use Rattle.st_wire.specs.declared.found.Found.{Found}
+use Rattle.st_wire.specs.declared.line_fields.LineFields.{LineFields}
 use Rattle.st_wire.specs.Fields.{argument, each_of}
-use Rattle.st_wire.specs.Found.{nothing, IsPartOf, IsFoundIn, part_at, whole_part, text_part, arguments_part}
+use Rattle.st_wire.specs.LineFields.{nothing, IsPartOf, IsFoundIn, part_at, whole_part, text_part, arguments_part}
 
 -- ---- a key that was not there makes one member more
 
@@ -35,7 +35,7 @@ one_member_more k d (member l e ms) none = one_more_at (slice_cmp nat_cmp k l) k
 differs : (q k : List ℕ) → bytes_eq q k ≡ false → q ≡ k → ⊥
 differs q k e same = true≢false (sym ((bytes_eq-Decides q k).1 same) ∙ e)
 
-module _ (f g : Found) (k : List ℕ) (d : Data) (ms : Members) where
+module _ (f g : LineFields) (k : List ℕ) (d : Data) (ms : Members) where
   part_kept : IsPartOf (part_at k g) (Some d) → ((q : List ℕ) → bytes_eq q k ≡ false → part_at q g ≡ part_at q f) → ((q : List ℕ) → IsPartOf (part_at q f) (get_member q ms))
       → (q : List ℕ) (same : Bool) → bytes_eq q k ≡ same → IsPartOf (part_at q g) (get_member q (put k d ms))
   part_kept here others before q true e =
@@ -52,7 +52,7 @@ module _ (f g : Found) (k : List ℕ) (d : Data) (ms : Members) where
 
 -- ---- what is kept at a key, by its kind
 
-module _ (f g : Found) (key name : List ℕ) (ms : Members) (is : key ≡ name) (more : g.count ≡ f.count + 1) (others : (q : List ℕ) → bytes_eq q name ≡ false → part_at q g ≡ part_at q f) where
+module _ (f g : LineFields) (key name : List ℕ) (ms : Members) (is : key ≡ name) (more : g.count ≡ f.count + 1) (others : (q : List ℕ) → bytes_eq q name ≡ false → part_at q g ≡ part_at q f) where
   kept_at : (d : Data) → part_at name f ≡ nothing → IsPartOf (part_at name g) (Some d) → IsFoundIn f ms → IsFoundIn g (put key d ms)
   kept_at d none here found =
       let count : g.count ≡ suc f.count = omega (arith, more) in

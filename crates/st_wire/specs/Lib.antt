@@ -1,7 +1,7 @@
 pub mod PartResults
 pub mod Fields
 pub mod Tokens
-pub mod Found
+pub mod LineFields
 pub mod Keys
 pub mod Queries
 pub mod Commands

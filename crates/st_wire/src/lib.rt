@@ -8,9 +8,9 @@
 
 pub mod commands;
 mod fields;
-mod forms;
-mod found;
 pub mod keys;
+mod line_commands;
+mod line_fields;
 pub mod line_readers;
 pub mod misses;
 pub mod names;

@@ -4,8 +4,8 @@ ghost use Rattle.st_classes.specs.Refusals.{Answers, first_of};
 ghost use Rattle.st_wire.specs.Commands.{command_of, command_rules};
 
 use crate::commands::{Command, read_command};
-use crate::forms;
-use crate::found::Found;
+use crate::line_commands;
+use crate::line_fields::LineFields;
 use crate::misses::Miss;
 use json::{Reader, Scratch, Token};
 use st_classes::refusals::Refusal;
@@ -56,10 +56,10 @@ fn read_tokens(alloc: Global, scratch: &mut Scratch, line: &[u8]) -> Result<Comm
     let Some(Token::BeginObject) = reader.next() else {
         return Err(Miss::Undecided);
     };
-    let mut found = Found::new();
+    let mut found = LineFields::new();
     found.read_all(alloc, &mut reader)?;
     if reader.next().is_some() {
         return Err(Miss::Undecided);
     }
-    forms::command_of(alloc, &mut found)
+    line_commands::command_of(alloc, &mut found)
 }

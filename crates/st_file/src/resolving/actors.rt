@@ -1,7 +1,7 @@
 //! What actors mean.
 ghost use Rattle.st_file.specs.Meanings as spec;
 
-use crate::resolving::{Means, class_of, resolve_all, word};
+use crate::resolving::{Resolve, class_of, resolve_all, word};
 use crate::texts::ActorText;
 use st_classes::names::Names;
 use st_classes::refusals::Refusal;
@@ -9,7 +9,7 @@ use st_classes::version::Version;
 use st_image::actor_part::ActorPart;
 use std::alloc::Global;
 
-impl Means<ActorPart> for ActorText {
+impl Resolve<ActorPart> for ActorText {
     ghost meaning = { spec.actor_meant };
 
     fn resolve(

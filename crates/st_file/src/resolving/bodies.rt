@@ -5,7 +5,7 @@ ghost use Rattle.st_file.specs.Answers.{Finds};
 ghost use Rattle.st_file.specs.Meanings as spec;
 
 use crate::resolving::values::values_of;
-use crate::resolving::{ACTORS, Means, class_of, meant, resolve_all, selector_of, word};
+use crate::resolving::{ACTORS, Resolve, class_of, meant, resolve_all, selector_of, word};
 use crate::texts::{BodyText, FrameText, ObjectText, PhaseText, ValueText};
 use st_classes::names::Names;
 use st_classes::refusals::Refusal;
@@ -17,7 +17,7 @@ use st_turn::frame::Frame;
 use st_turn::stack::Stack;
 use std::alloc::Global;
 
-impl Means<Object> for ObjectText {
+impl Resolve<Object> for ObjectText {
     ghost meaning = { spec.object_meant };
 
     fn resolve(&self, alloc: Global, names: &Names, version: &Version) -> Result<Object, Refusal> {
@@ -42,7 +42,7 @@ fn pc_of(place: u64) -> Result<u16, Refusal>
     meant(u16::try_from(place).ok())
 }
 
-impl Means<Frame> for FrameText {
+impl Resolve<Frame> for FrameText {
     ghost meaning = { spec.frame_meant };
 
     fn resolve(&self, alloc: Global, names: &Names, version: &Version) -> Result<Frame, Refusal> {
@@ -97,7 +97,7 @@ fn frames_of(
     stacked(alloc, frames)
 }
 
-impl Means<Phase> for PhaseText {
+impl Resolve<Phase> for PhaseText {
     ghost meaning = { spec.phase_meant };
 
     fn resolve(&self, alloc: Global, names: &Names, version: &Version) -> Result<Phase, Refusal> {
@@ -130,7 +130,7 @@ fn objects_of(
     Ok(Objects::from_vec(objects.into_vec()))
 }
 
-impl Means<Body> for BodyText {
+impl Resolve<Body> for BodyText {
     ghost meaning = { spec.body_meant };
 
     fn resolve(&self, alloc: Global, names: &Names, version: &Version) -> Result<Body, Refusal> {

@@ -3,7 +3,7 @@ ghost use Rattle.st_classes.specs.declared.refusals.ImagePlace.TheVariants.{Acto
 ghost use Rattle.st_file.specs.Answers.{Finds};
 ghost use Rattle.st_file.specs.Meanings as spec;
 
-use crate::resolving::{Means, class_of, resolve_all, selector_of, word};
+use crate::resolving::{Resolve, class_of, resolve_all, selector_of, word};
 use crate::texts::{MessageText, ValueText};
 use st_classes::names::Names;
 use st_classes::refusals::Refusal;
@@ -13,7 +13,7 @@ use st_classes::version::Version;
 use st_mailbox::messages::Message;
 use std::alloc::Global;
 
-impl Means<Value> for ValueText {
+impl Resolve<Value> for ValueText {
     ghost meaning = { spec.value_meant };
 
     fn resolve(&self, _alloc: Global, names: &Names, version: &Version) -> Result<Value, Refusal> {
@@ -41,7 +41,7 @@ pub(super) fn values_of(
     resolve_all(alloc, names, version, texts.as_slice())
 }
 
-impl Means<Message> for MessageText {
+impl Resolve<Message> for MessageText {
     ghost meaning = { spec.message_meant };
 
     fn resolve(&self, alloc: Global, names: &Names, version: &Version) -> Result<Message, Refusal> {

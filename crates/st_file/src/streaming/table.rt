@@ -2,7 +2,7 @@
 ghost use Rattle.st_file.specs.Streaming.{actor_by};
 
 use crate::fields::Readable;
-use crate::resolving::Means;
+use crate::resolving::Resolve;
 use crate::saving::values::Table;
 use crate::streaming::lists::Makes;
 use crate::texts::ActorText;

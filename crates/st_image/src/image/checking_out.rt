@@ -4,7 +4,7 @@ ghost use Rattle.st_turn.specs.BodyFits.{FitsSome};
 
 use crate::image::Image;
 use crate::items::Item;
-use crate::leavings::Leavings;
+use crate::recycled::Recycled;
 use st_classes::refusals::Refusal;
 use st_classes::token::Token;
 use st_classes::values::ActorId;
@@ -21,16 +21,16 @@ fn claim_in(
     token: Token,
     body: Body,
     stamp: u64,
-    leavings: &mut Leavings,
+    recycled: &mut Recycled,
 ) -> Result<Claim, AllocError>
     requires { FitsSome token actor body }
     ensures { IfOk result (λ c. c ≡ record { actor = actor; edits = token; before = body; after = body; steps = 0; sends = []; stamp = stamp }) }
 {
-    let Some(parts) = leavings.claim.take() else {
+    let Some(parts) = recycled.claim.take() else {
         return Claim::new(alloc, actor, token, body, stamp);
     };
     let (claim, old) = Claim::renew(parts, actor, token, body, stamp);
-    leavings.token = Some(old);
+    recycled.token = Some(old);
     Ok(claim)
 }
 
@@ -87,7 +87,7 @@ impl<M: Mailbox> Image<M> {
         alloc: Global,
         actor: ActorId,
         begins: bool,
-        leavings: &mut Leavings,
+        recycled: &mut Recycled,
     ) -> Result<Claim, AllocError>
         requires allowed { first_of (checkout_rules self.old (slice_get (world self.old).actors actor.0)) ≡ None }
         requires begins { begins ≡ idle_at (slice_get (world self.old).actors actor.0) }
@@ -95,9 +95,9 @@ impl<M: Mailbox> Image<M> {
         ensures err { OnErr result (self.new ≡ self.old) }
     {
         let stamp = self.stamp_after(actor, begins);
-        let body = self.actors.body_to_check_out(alloc, actor, leavings)?;
+        let body = self.actors.body_to_check_out(alloc, actor, recycled)?;
         self.changes.make_room(actor)?;
-        let claim = claim_in(alloc, actor, self.token.again()?, body, stamp, leavings)?;
+        let claim = claim_in(alloc, actor, self.token.again()?, body, stamp, recycled)?;
         if begins {
             self.history.reserve(1)?;
             self.history.push(Item::Begun(actor)).unwrap();
@@ -116,7 +116,7 @@ impl<M: Mailbox> Image<M> {
     pub fn checkout(&mut self, alloc: Global, actor: ActorId) -> Result<Claim, Refusal>
         ensures { ChecksOut self.old actor result self.new }
     {
-        self.checkout_in(alloc, actor, &mut Leavings::none())
+        self.checkout_in(alloc, actor, &mut Recycled::none())
     }
 
     /// The same. The claim takes the memory of what a commit left, as far as it fits, so that quanta that are alike take no memory. What
@@ -125,12 +125,12 @@ impl<M: Mailbox> Image<M> {
         &mut self,
         alloc: Global,
         actor: ActorId,
-        leavings: &mut Leavings,
+        recycled: &mut Recycled,
     ) -> Result<Claim, Refusal>
         ensures { ChecksOut self.old actor result self.new }
     {
         let begins = self.begins_turn(actor)?;
-        Ok(self.hand_out(alloc, actor, begins, leavings)?)
+        Ok(self.hand_out(alloc, actor, begins, recycled)?)
     }
 
     /// Gives a claim back: none of its steps is taken. No memory is taken.

@@ -9,7 +9,7 @@ use crate::counts::MOST_COUNTED;
 use crate::failures::ended_by_fault;
 use crate::image::Image;
 use crate::items::Item;
-use crate::leavings::Leavings;
+use crate::recycled::Recycled;
 use crate::tallies::Tallies;
 use st_classes::keys::SiteId;
 use st_classes::refusals::Refusal;
@@ -145,7 +145,7 @@ impl<M: Mailbox> Image<M> {
         claim: Claim,
         is_act_next: bool,
         steps: u32,
-        leavings: &mut Leavings,
+        recycled: &mut Recycled,
     ) -> Result<(), Claim>
         requires allowed { CommitAllowed self.old claim }
         requires act { is_act_next ≡ stands_before_act claim }
@@ -183,9 +183,9 @@ impl<M: Mailbox> Image<M> {
             &mut self.actors,
             actor,
             after,
-            &mut parts.twin,
+            &mut parts.next_copy,
             is_act_next,
-            &mut leavings.body,
+            &mut recycled.body,
         ) {
             Ok(_) => {
                 let ended = ended_by_fault(&self.base, &self.actors, actor);
@@ -194,7 +194,7 @@ impl<M: Mailbox> Image<M> {
                 self.changes.raise(actor);
                 self.history.push_reserved(Item::Ran { actor, steps });
                 self.counts.steps += taken;
-                leavings.claim = self.failures.keep_if_failed(ended, step, parts, steps - 1);
+                recycled.claim = self.failures.keep_if_failed(ended, step, parts, steps - 1);
                 Ok(())
             }
             Err(after) => Err(Claim::from_parts(parts, after)),
@@ -218,7 +218,7 @@ impl<M: Mailbox> Image<M> {
         &mut self,
         alloc: Global,
         claim: Claim,
-        leavings: &mut Leavings,
+        recycled: &mut Recycled,
     ) -> Result<u32, (Refusal, Option<Claim>)>
         requires survives { Survives self.old claim }
         requires unchanged { IsUnchanged self.old claim }
@@ -234,7 +234,7 @@ impl<M: Mailbox> Image<M> {
             self.actors.release(claim.actor());
             return Ok(0);
         }
-        match self.take_steps(alloc, claim, is_act_next, steps, leavings) {
+        match self.take_steps(alloc, claim, is_act_next, steps, recycled) {
             Ok(()) => Ok(steps),
             Err(claim) => Err((Refusal::NoMemory, Some(claim))),
         }
@@ -251,16 +251,16 @@ impl<M: Mailbox> Image<M> {
         requires body { KnowsBody self.old claim }
         ensures { Commits self.old claim result self.new }
     {
-        self.commit_leaving(alloc, claim, &mut Leavings::none())
+        self.commit_recycling(alloc, claim, &mut Recycled::none())
     }
 
     /// The same, and what the commit has no more use for is left to the caller, for his next checkout, or to let it go when he likes. It
     /// takes the place of what lay there before.
-    pub fn commit_leaving(
+    pub fn commit_recycling(
         &mut self,
         alloc: Global,
         claim: Claim,
-        leavings: &mut Leavings,
+        recycled: &mut Recycled,
     ) -> Result<u32, (Refusal, Option<Claim>)>
         requires begins { Begins claim.edits (world self.old).edits }
         requires body { KnowsBody self.old claim }
@@ -272,7 +272,7 @@ impl<M: Mailbox> Image<M> {
         if !self.is_stamped(&claim) && !self.has_body(&claim) {
             return Err(self.refuse(claim, Refusal::Changed));
         }
-        self.commit_unchanged(alloc, claim, leavings)
+        self.commit_unchanged(alloc, claim, recycled)
     }
 
     /// The steps of a claim become the actor's, and enter the history as one item; no item is added for no steps. Where the claim
@@ -296,6 +296,6 @@ impl<M: Mailbox> Image<M> {
         if !self.has_body(&claim) {
             return Err(self.refuse(claim, Refusal::Changed));
         }
-        self.commit_unchanged(alloc, claim, &mut Leavings::none())
+        self.commit_unchanged(alloc, claim, &mut Recycled::none())
     }
 }

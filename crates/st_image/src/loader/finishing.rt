@@ -10,7 +10,7 @@ use crate::fitting::actors_fit;
 use crate::image::Image;
 use crate::letting_go::let_go;
 use crate::loader::Loader;
-use crate::senders::{in_sending_order, senders_are_there};
+use crate::sequence_numbers::{in_sending_order, senders_are_there};
 use st_classes::limits::ACTORS;
 use st_classes::names::Names;
 use st_classes::refusals::{ImagePlace, Refusal};

@@ -14,7 +14,7 @@ use st_calls::claims;
 use st_classes::refusals::Refusal;
 use st_classes::values::ActorId;
 use st_image::image::Image;
-use st_image::leavings::Leavings;
+use st_image::recycled::Recycled;
 use st_mailbox::mailboxes::Mailbox;
 use st_turn::body::{Body, Phase};
 use std::alloc::Global;
@@ -108,12 +108,12 @@ impl<K: Naming, M: Mailbox> PoolState<K, M> {
         &mut self,
         alloc: Global,
         actor: ActorId,
-        leavings: &mut Leavings,
+        recycled: &mut Recycled,
     ) -> Result<PoolClaim<K>, Refusal>
         ensures takes { ChecksOut self.old.image actor result self.new.image }
         ensures books { self.new.books ≡ self.old.books }
     {
-        match claims::check_out(alloc, &mut self.image, actor, leavings) {
+        match claims::check_out(alloc, &mut self.image, actor, recycled) {
             Ok(claim) => {
                 note(&self.head, &mut self.prefix, &self.image);
                 Ok(PoolClaim {
@@ -132,7 +132,7 @@ impl<K: Naming, M: Mailbox> PoolState<K, M> {
         &mut self,
         alloc: Global,
         mine: &mut WorkerShare<K>,
-        leavings: &mut Leavings,
+        recycled: &mut Recycled,
     ) -> Work<PoolClaim<K>>
         ensures takes { Takes self.old.image result self.new.image }
         ensures share { mine.new ≡ mine.old }
@@ -147,7 +147,7 @@ impl<K: Naming, M: Mailbox> PoolState<K, M> {
         let Some(actor) = self.image.next_ready() else {
             return Work::Wait(self.waiting.moves());
         };
-        match self.check_out(alloc, actor, leavings) {
+        match self.check_out(alloc, actor, recycled) {
             Ok(pool_claim) => Work::Claimed(pool_claim),
             Err(_) => {
                 self.waiting.note_want(true);
@@ -163,7 +163,7 @@ impl<K: Naming, M: Mailbox> PoolState<K, M> {
         alloc: Global,
         mine: &mut WorkerShare<K>,
         pool_claim: PoolClaim<K>,
-        leavings: &mut Leavings,
+        recycled: &mut Recycled,
     ) -> Result<u32, Refusal>
         ensures settles { Settles self.old.image pool_claim result self.new.image }
         ensures books { self.new.books ≡ record self.old.books { steps = self.old.books.steps + committed result } }
@@ -175,7 +175,7 @@ impl<K: Naming, M: Mailbox> PoolState<K, M> {
         let PoolClaim { claim, seen: _ } = pool_claim;
         let actor = claim.actor();
         let ended = is_over(claim.after());
-        let answer = claims::settle(alloc, &mut self.image, claim, is_known, leavings);
+        let answer = claims::settle(alloc, &mut self.image, claim, is_known, recycled);
         self.books.run(mine, &answer);
         self.waiting.note_commit(has_steps(&answer));
         self.waiting.note_want(is_wanting(&answer));
@@ -193,18 +193,18 @@ impl<K: Naming, M: Mailbox> PoolState<K, M> {
         pool_claim: PoolClaim<K>,
         is_starved: bool,
         is_short: bool,
-        leavings: &mut Leavings,
+        recycled: &mut Recycled,
     ) -> (Result<u32, Refusal>, Work<PoolClaim<K>>)
         ensures turns { CommitsAndClaims self.old.image pool_claim is_starved result.0 result.1 self.new.image }
         ensures books { self.new.books ≡ record self.old.books { steps = self.old.books.steps + committed result.0 } }
         ensures share { mine.new ≡ mine.old + committed result.0 }
         ensures within { K.start.steps + mine.old ≤ (amounts self.old.image).steps }
     {
-        let answer = self.commit(alloc, mine, pool_claim, leavings);
+        let answer = self.commit(alloc, mine, pool_claim, recycled);
         if !takes_more(&answer, is_starved) {
             return (answer, Work::Wait(self.waiting.moves()));
         }
-        let work = self.work(alloc, mine, leavings);
+        let work = self.work(alloc, mine, recycled);
         if is_short && goes_on(&work) {
             self.waiting.note_hurried(has_steps(&answer));
         }

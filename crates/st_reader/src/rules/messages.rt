@@ -3,7 +3,7 @@ ghost use Rattle.std.specs.Prelude.{◌≡◌, ◌&&◌, ◌||◌, not};
 ghost use Rattle.std.specs.List.{list_all, list_any};
 ghost use Rattle.st_reader.specs.Syntax.{Expression, Message as Shown, keywords, send, cascade};
 ghost use Rattle.st_reader.specs.TreeViews.{chain_view, message_view, parts_of, further_of, seen_parts, seen_further};
-ghost use Rattle.st_reader.specs.Inlining.{is_block as block, is_loose as loose, inlining, suits_receiver, part_texts, part_arguments, is_inlined as inlined};
+ghost use Rattle.st_reader.specs.Inlining.{is_block as block, is_loose as loose, inlining, suits_receiver, keyword_names, part_arguments, is_inlined as inlined};
 ghost use Rattle.st_reader.specs.WellFormed.{arguments, further_arguments, is_well_placed};
 ghost use Rattle.st_reader.specs.ExpressionKinds.{expression_kind};
 
@@ -28,7 +28,7 @@ fn is_any_loose(parts: &[(Name, Chain)]) -> bool
 /// How a message with these keywords is inlined, if it is.
 #[tactic(auto, using(crate::proofs::Messages::inlining_many))]
 fn inlining_of(parts: &[(Name, Chain)]) -> Option<Inlining>
-    ensures { result ≡ inlining (part_texts (parts_of (seen_parts parts.now))) }
+    ensures { result ≡ inlining (keyword_names (parts_of (seen_parts parts.now))) }
 {
     match parts {
         [one] => Inlining::of_one(one.0.text.as_slice()),

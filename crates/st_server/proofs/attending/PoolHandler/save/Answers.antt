@@ -7,5 +7,5 @@ use Rattle.st_server.proofs.attending.PoolHandler.save.Goals as goal
 
 pub returns : goal.returns
 returns g c =
-    let h = c.copy-moment.ensures in
-    (h.0, h.1, h.2, (copied_saves h.0.image c.copy-moment.result.0 c.written-reply.result c.replace-reply.result h.3.0 h.3.1 c.written-reply.ensures c.replace-reply.ensures, h.3.2, h.3.3))
+    let h = c.copy-snapshot.ensures in
+    (h.0, h.1, h.2, (copied_saves h.0.image c.copy-snapshot.result.0 c.written-reply.result c.replace-reply.result h.3.0 h.3.1 c.written-reply.ensures c.replace-reply.ensures, h.3.2, h.3.3))

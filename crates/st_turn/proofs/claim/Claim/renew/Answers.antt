@@ -5,5 +5,5 @@ use Rattle.st_turn.proofs.claim.Claim.renew.Goals as goal
 pub invariant_of-result : goal.invariant_of-result
 invariant_of-result c =
     let p = c.begin_again-old.new.parts in
-    let is : (p.actor ≡ c.args.actor) × (p.token ≡ c.args.token) × (p.before ≡ c.args.body) × (p.after ≡ None) × (p.steps ≡ 0) × (p.sends.items ≡ []) × (p.twin ≡ None) = search rules in
+    let is : (p.actor ≡ c.args.actor) × (p.token ≡ c.args.token) × (p.before ≡ c.args.body) × (p.after ≡ None) × (p.steps ≡ 0) × (p.sends.items ≡ []) × (p.next_copy ≡ None) = search rules in
     none_kept p c.args.actor c.args.token c.args.body c.requires is

@@ -1,5 +1,0 @@
-use Rattle.st_flags.proofs.OneWord.{lowest_of}
-use Rattle.st_flags.proofs.word.lowest.Goals as goal
-
-pub returns : goal.returns
-returns c = lowest_of c.args.word c.requires c.ranges.word.fits

@@ -1,5 +1,0 @@
-use Rattle.std.proofs.Common.{◌≡◌, take}
-use Rattle.st_image.proofs.actor.plain_data.copied.Given as goal
-
-abbrev pub invariant-messages : goal.invariant-messages
-invariant-messages g l = l.messages.items ≡ take l.place (g.M.Mailbox.shown l.mailbox).items

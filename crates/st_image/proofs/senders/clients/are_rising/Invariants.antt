@@ -1,5 +1,0 @@
-use Rattle.st_image.proofs.NumberedClients.{RiseTo}
-use Rattle.st_image.proofs.senders.clients.are_rising.Given as goal
-
-abbrev pub invariant-clients : goal.invariant-clients
-invariant-clients l = RiseTo l.clients l.place l.least

@@ -1,5 +1,0 @@
-use Rattle.st_script.proofs.Taken.{runs_say_what_they_took}
-use Rattle.st_script.proofs.totals.totals.Goals as goal
-
-pub returns : goal.returns
-returns c = runs_say_what_they_took

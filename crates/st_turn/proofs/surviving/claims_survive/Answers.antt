@@ -1,5 +1,0 @@
-use Rattle.st_turn.proofs.ClaimsLater.{claims_survive}
-use Rattle.st_turn.proofs.surviving.claims_survive.Goals as goal
-
-pub returns : goal.returns
-returns c = claims_survive

@@ -13,12 +13,12 @@ use Rattle.st_classes.specs.Refusals.{Rule}
 use Rattle.st_classes.specs.Names.{interned}
 use Rattle.st_turn.specs.Claims.{ClaimView}
 use Rattle.st_mailbox.specs.declared.messages.Message.{Message}
-use Rattle.st_image.specs.declared.items.Item.{Item}
-use Rattle.st_image.specs.declared.items.Item.TheVariants.{Begun, Closed, Created, Edited, Posted, Ran}
+use Rattle.st_image.specs.declared.history.Item.{Item}
+use Rattle.st_image.specs.declared.history.Item.TheVariants.{Begun, Closed, Created, Edited, Posted, Ran}
 use Rattle.st_image.specs.Images.{ImageView, accepted_by, appended, close_rules, create_rules, image_define_rules, image_post_rules, image_remove_rules, image_reparent_rules, world, counts_of}
 use Rattle.st_image.specs.Calls.{Adds, Closes, Creates, Defines, InstallsIn, Posts, Removes, Reparents}
 use Rattle.st_image.specs.declared.counts.Counts.{Counts}
-use Rattle.st_image.specs.Earlier.{Earlier}
+use Rattle.st_image.specs.EarlierCounts.{Earlier}
 use Rattle.st_image.specs.Worlds.{World}
 use Rattle.st_image.specs.Checkpoints.{MakesCheckpoint}
 use Rattle.st_image.specs.RanTargets.{edits_among}

@@ -9,8 +9,8 @@ ghost use Rattle.st_calls.specs.Growth.{Grows, edits_by, posts_by};
 use crate::calls::{Answer, Call};
 use st_classes::refusals::Refusal;
 use st_classes::values::{ActorId, Selector};
+use st_image::history::Item;
 use st_image::image::Image;
-use st_image::items::Item;
 use st_mailbox::mailboxes::Mailbox;
 use std::alloc::Global;
 

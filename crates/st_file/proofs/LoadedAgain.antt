@@ -6,7 +6,7 @@ use Rattle.std.proofs.lemmas.Option.{same_Some}
 use Rattle.serde_json.specs.Data.{Data}
 use Rattle.st_image.specs.Images.{counts_of}
 use Rattle.st_image.specs.Loaded.{image_at}
-use Rattle.st_file.specs.Again.{DocumentsLoad, FilesLoad, IsAgain, TextsLoad}
+use Rattle.st_file.specs.RoundTrips.{DocumentsLoad, FilesLoad, IsAgain, TextsLoad}
 use Rattle.st_file.specs.Describes.{DescribesOne, LoadsImage, WrongDescribesNone}
 use Rattle.st_file.specs.Files.{LoadsText}
 

@@ -1,5 +1,5 @@
 pub mod ActorJson
-pub mod Again
+pub mod RoundTrips
 pub mod Answers
 pub mod BodyJson
 pub mod Describes

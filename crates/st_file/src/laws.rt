@@ -1,5 +1,5 @@
 //! A saved image loads again.
-ghost use Rattle.st_file.specs.Again.{DocumentsLoad, FilesLoad, TextsLoad};
+ghost use Rattle.st_file.specs.RoundTrips.{DocumentsLoad, FilesLoad, TextsLoad};
 
 use crate::images::describes_one;
 

@@ -20,9 +20,9 @@ use Rattle.st_image.specs.ActResults.{constants_of}
 use Rattle.st_image.specs.ImageInvariant.{IsImage}
 use Rattle.st_image.specs.Parts.{FitsMailbox, actor_of, result_of, world_of_parts}
 use Rattle.st_image.specs.ClaimsOut.{put_first, trimmed}
-use Rattle.st_image.specs.Earlier.{Earlier, counted_earlier}
+use Rattle.st_image.specs.EarlierCounts.{Earlier, counted_earlier}
 use Rattle.st_image.specs.declared.counts.Counts.{Counts}
-use Rattle.st_image.specs.declared.items.Item.{Item}
+use Rattle.st_image.specs.declared.history.Item.{Item}
 use Rattle.st_turn.specs.declared.tally.Tally.{Tally}
 use Rattle.st_image.specs.Loaded.{AreBaseActors, AreBaseSenders, loaded_image}
 use Rattle.st_image.proofs.Posting.{seen, standing_of}

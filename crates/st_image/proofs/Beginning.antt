@@ -8,7 +8,7 @@ use Rattle.st_classes.specs.declared.refusals.Refusal.TheVariants.{BadArguments}
 use Rattle.st_classes.specs.Refusals.{first_of}
 use Rattle.st_classes.specs.Kernel.{kernel_selectors}
 use Rattle.st_classes.specs.declared.edits.Edit.{Edit}
-use Rattle.st_image.specs.declared.items.Item.{Item}
+use Rattle.st_image.specs.declared.history.Item.{Item}
 use Rattle.st_image.specs.declared.settings.Settings.{Settings}
 use Rattle.st_image.specs.Images.{world_of, settings_rules}
 use Rattle.st_image.specs.Worlds.{World, start}

@@ -11,7 +11,7 @@ use Rattle.st_classes.specs.declared.refusals.Limited.TheVariants.{Names, Edits}
 use Rattle.st_classes.specs.Names.{interned}
 use Rattle.st_turn.specs.Claims.{ClaimView}
 use Rattle.st_mailbox.specs.declared.messages.Message.{Message}
-use Rattle.st_image.specs.declared.items.Item.TheVariants.{Begun, Closed, Created, Edited, Posted}
+use Rattle.st_image.specs.declared.history.Item.TheVariants.{Begun, Closed, Created, Edited, Posted}
 use Rattle.st_image.specs.Images.{ImageView, accepted_by, appended, close_rules, create_rules, image_define_rules, image_post_rules, image_remove_rules, image_reparent_rules, world}
 use Rattle.st_image.specs.Calls.{Closes, Creates, Defines, InstallsIn, Posts, Removes, Reparents}
 use Rattle.st_image.specs.Installs.{LeavesNames}

@@ -6,13 +6,13 @@ use Rattle.st_classes.specs.declared.values.ActorId.{ActorId}
 use Rattle.st_turn.specs.Idle.{is_idle}
 use Rattle.st_mailbox.specs.declared.messages.Message.{Message}
 use Rattle.st_image.specs.declared.counts.Counts.{Counts}
-use Rattle.st_image.specs.declared.items.Item.{Item}
-use Rattle.st_image.specs.declared.items.Item.TheVariants.{Edited, Created, Posted, Closed, Begun, Ran}
+use Rattle.st_image.specs.declared.history.Item.{Item}
+use Rattle.st_image.specs.declared.history.Item.TheVariants.{Edited, Created, Posted, Closed, Begun, Ran}
 use Rattle.st_image.specs.Worlds.{Constants, World, WorldActor, change, pending}
 use Rattle.st_image.specs.Replay.{next, next_message, replay, with_begun}
 use Rattle.st_image.specs.Counts.{ran_of, weigh}
 use Rattle.st_image.specs.Changes.{change_count, changes_body, changes_in}
-use Rattle.st_image.specs.Earlier.{counted_earlier}
+use Rattle.st_image.specs.EarlierCounts.{counted_earlier}
 use Rattle.st_image.specs.ImageInvariant.{FitsBase, turns_open}
 use Rattle.st_image.proofs.BodyChanges.{changes_append, stayed_next}
 use Rattle.st_image.proofs.Changing.{get-change}

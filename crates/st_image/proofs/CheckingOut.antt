@@ -11,8 +11,8 @@ use Rattle.st_turn.specs.declared.body.Body.{Body}
 use Rattle.st_turn.specs.Idle.{is_idle}
 use Rattle.st_mailbox.specs.declared.messages.Message.{Message}
 use Rattle.st_image.specs.declared.settings.Settings.{Settings}
-use Rattle.st_image.specs.declared.items.Item.{Item}
-use Rattle.st_image.specs.declared.items.Item.TheVariants.{Begun}
+use Rattle.st_image.specs.declared.history.Item.{Item}
+use Rattle.st_image.specs.declared.history.Item.TheVariants.{Begun}
 use Rattle.st_image.specs.Worlds.{World, WorldActor, change, change_at, pending}
 use Rattle.st_image.specs.Replay.{with_begun, next_message}
 use Rattle.st_image.specs.Images.{ImageView, Standing, appended, world, world_of}
@@ -23,7 +23,7 @@ use Rattle.st_turn.specs.declared.tally.Tally.{Tally}
 use Rattle.st_image.specs.ClaimsOut.{one_more}
 use Rattle.st_turn.specs.Claims.{ClaimView}
 use Rattle.st_image.specs.Changes.{change_count, changes_in}
-use Rattle.st_image.specs.Earlier.{Earlier}
+use Rattle.st_image.specs.EarlierCounts.{Earlier}
 use Rattle.st_image.specs.Commits.{HasCheckedOut, after_checkout, checkout_rules, idle_at, new_claim, with_out}
 use Rattle.st_image.proofs.Lists.{off, set_at_same}
 use Rattle.st_image.proofs.Changing.{change_here, get-change}

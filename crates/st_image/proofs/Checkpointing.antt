@@ -12,8 +12,8 @@ use Rattle.st_turn.specs.Surviving.{SurvivesAt}
 use Rattle.st_image.specs.declared.counts.Counts.{Counts}
 use Rattle.st_image.specs.Worlds.{World, WorldActor}
 use Rattle.st_image.specs.Parts.{rebase, rebased}
-use Rattle.st_image.specs.declared.items.Item.{Item}
-use Rattle.st_image.specs.declared.items.Item.TheVariants.{Ran}
+use Rattle.st_image.specs.declared.history.Item.{Item}
+use Rattle.st_image.specs.declared.history.Item.TheVariants.{Ran}
 use Rattle.st_image.specs.Changes.{change_count, changes_in}
 use Rattle.st_image.specs.Counts.{edits_of, most_counted, posts_of, ran_of, weigh}
 use Rattle.st_image.specs.Images.{ImageView, counts_of, edits_made, too_many_steps, world, world_of}

@@ -2,7 +2,7 @@
 use Rattle.std.proofs.Common.{arith, ◌≡◌, ◌+◌, ◌-◌, ◌<◌, ◌≤◌, ◌==◌, ◌++◌, ℕ, zero, suc, [], ◌∷◌, List, Some, refl, ap, sym, ◌∙◌, length, take, get_or, Bool, true, false, cond, subst, ◌⊎◌, inl, inr}
 use Rattle.std.proofs.lemmas.List.{append_assoc, append-nil, length-take, take_more}
 use Rattle.std.proofs.lemmas.Bool.Decides.{nat_tests}
-use Rattle.st_image.specs.declared.items.Item.{Item}
+use Rattle.st_image.specs.declared.history.Item.{Item}
 use Rattle.st_image.specs.Worlds.{Constants, World, client_last}
 use Rattle.st_image.specs.Replay.{replay}
 use Rattle.st_image.specs.WorldInvariant.{AreClientsFrom}

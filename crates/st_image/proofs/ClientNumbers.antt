@@ -17,8 +17,8 @@ use Rattle.st_turn.specs.Steps.{Step, next as leads, ended, outer, step}
 use Rattle.st_mailbox.specs.declared.messages.Message.{Message}
 use Rattle.st_mailbox.specs.declared.messages.Sender.{Sender}
 use Rattle.st_mailbox.specs.declared.messages.Sender.TheVariants.{Client, Actor}
-use Rattle.st_image.specs.declared.items.Item.{Item}
-use Rattle.st_image.specs.declared.items.Item.TheVariants.{Edited, Created, Posted, Closed, Begun, Ran}
+use Rattle.st_image.specs.declared.history.Item.{Item}
+use Rattle.st_image.specs.declared.history.Item.TheVariants.{Edited, Created, Posted, Closed, Begun, Ran}
 use Rattle.st_image.specs.Worlds.{Constants, World, WorldActor, change, client_last, put_number}
 use Rattle.st_image.specs.Replay.{ActResult, after_close, after_post_by, after_step, after_step_of, act_result, attempted_act, create_result, failed_act, is_local, next, next_message, post_result, with_accepted, with_begun, with_last, with_new}
 use Rattle.st_image.specs.Replay.{replay}

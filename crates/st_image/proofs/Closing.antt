@@ -6,8 +6,8 @@ use Rattle.st_classes.specs.declared.edits.Edit.{Edit}
 use Rattle.st_classes.specs.declared.refusals.Refusal.TheVariants.{Closed as IsClosed}
 use Rattle.st_classes.specs.Refusals.{first_of}
 use Rattle.st_image.specs.declared.settings.Settings.{Settings}
-use Rattle.st_image.specs.declared.items.Item.{Item}
-use Rattle.st_image.specs.declared.items.Item.TheVariants.{Closed}
+use Rattle.st_image.specs.declared.history.Item.{Item}
+use Rattle.st_image.specs.declared.history.Item.TheVariants.{Closed}
 use Rattle.st_image.specs.Worlds.{Constants, World, WorldActor, change, change_at}
 use Rattle.st_image.specs.Replay.{is_open_at, next}
 use Rattle.st_image.specs.Images.{close_rules, no_room, world_of, Standing}

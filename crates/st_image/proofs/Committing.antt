@@ -12,7 +12,7 @@ use Rattle.st_turn.specs.declared.body.Phase.TheVariants.{Fresh, Start, Frames, 
 use Rattle.st_turn.specs.Steps.{Asked, asked, is_outer, next_site_in, own_steps, step}
 use Rattle.st_turn.specs.Idle.{is_idle}
 use Rattle.st_turn.specs.Claims.{ClaimView, IsSound, own_asked, sites_asked}
-use Rattle.st_image.specs.Earlier.{Earlier}
+use Rattle.st_image.specs.EarlierCounts.{Earlier}
 use Rattle.st_image.specs.Worlds.{Constants, World, WorldActor, change, change_at}
 use Rattle.st_image.specs.Replay.{after_step, with_body}
 use Rattle.st_image.specs.Counts.{most_counted}
@@ -25,15 +25,15 @@ use Rattle.st_turn.specs.declared.acts.Act.{Act}
 use Rattle.st_turn.specs.Surviving.{SameSteps}
 use Rattle.st_turn.proofs.ActSites.{next_site_is}
 use Rattle.st_turn.proofs.ClaimsLater.{claims_survive}
-use Rattle.st_image.specs.declared.items.Item.{Item}
-use Rattle.st_image.specs.declared.items.Item.TheVariants.{Ran}
+use Rattle.st_image.specs.declared.history.Item.{Item}
+use Rattle.st_image.specs.declared.history.Item.TheVariants.{Ran}
 use Rattle.st_image.specs.declared.settings.Settings.{Settings}
 use Rattle.st_turn.specs.declared.tally.Tally.{Tally}
 use Rattle.st_image.specs.ImageInvariant.{IsImage}
 use Rattle.st_turn.specs.Tallies.{after_sends}
 use Rattle.st_image.specs.Tallies.{CountsSends, Tallied, after_act_at, asked_by_item, tally_at}
 use Rattle.st_image.specs.Commits.{CommitAllowed, CommitRefused, HasCommitted, IsUnchanged, Survives, act_site, commit_room, items_of, stands_before_act, steps_of}
-use Rattle.st_image.specs.Newest.{Kept, kept_with}
+use Rattle.st_image.specs.NewestResults.{Kept, kept_with}
 use Rattle.st_image.specs.ActorViews.{ActorView, Shows, actor_view, view_after_steps}
 use Rattle.st_image.specs.ActResults.{GrowsByOne, IsShown, StandsBefore, TakesOuter, constants_of, world_after}
 use Rattle.st_image.proofs.Lists.{off, set_at_same, set_twice}

@@ -13,8 +13,8 @@ use Rattle.st_turn.specs.declared.claim.Sent.{Sent}
 use Rattle.st_turn.specs.Claims.{sites_asked}
 use Rattle.st_turn.specs.Steps.{Asked}
 use Rattle.st_turn.specs.declared.tally.Tally.{Tally}
-use Rattle.st_image.specs.declared.items.Item.{Item}
-use Rattle.st_image.specs.declared.items.Item.TheVariants.{Edited, Created, Posted, Closed, Begun, Ran}
+use Rattle.st_image.specs.declared.history.Item.{Item}
+use Rattle.st_image.specs.declared.history.Item.TheVariants.{Edited, Created, Posted, Closed, Begun, Ran}
 use Rattle.st_image.specs.Worlds.{Constants, World}
 use Rattle.st_image.specs.Replay.{Trail, after_step, asked_at, next, replay, trail_after, trail_step}
 use Rattle.st_image.specs.ActResults.{world_after}

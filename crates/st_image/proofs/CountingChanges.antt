@@ -3,8 +3,8 @@ use Rattle.std.proofs.Common.{arith, ◌≡◌, ◌+◌, ◌≤◌, ◌==◌, �
 use Rattle.std.proofs.lemmas.Bool.Decides.{nat_tests}
 use Rattle.std.proofs.lemmas.List.Sums.{count_by-le-length}
 use Rattle.st_classes.specs.declared.values.ActorId.{ActorId}
-use Rattle.st_image.specs.declared.items.Item.{Item}
-use Rattle.st_image.specs.declared.items.Item.TheVariants.{Begun}
+use Rattle.st_image.specs.declared.history.Item.{Item}
+use Rattle.st_image.specs.declared.history.Item.TheVariants.{Begun}
 use Rattle.st_image.specs.Changes.{CountsChanges, change_count, changes_body, changes_in}
 use Rattle.st_image.proofs.BodyChanges.{changes_append}
 use Rattle.st_image.proofs.CheckingOut.{begun_items}

@@ -2,11 +2,11 @@
 use Rattle.std.proofs.Common.{arith, ◌≡◌, ℕ, ◌+◌, ◌≤◌, ◌++◌, [], ◌∷◌, List, refl, ap, ap₂, sym, ◌∙◌}
 use Rattle.st_classes.specs.declared.values.ActorId.{ActorId}
 use Rattle.st_mailbox.specs.declared.messages.Message.{Message}
-use Rattle.st_image.specs.declared.items.Item.{Item}
-use Rattle.st_image.specs.declared.items.Item.TheVariants.{Posted, Ran}
+use Rattle.st_image.specs.declared.history.Item.{Item}
+use Rattle.st_image.specs.declared.history.Item.TheVariants.{Posted, Ran}
 use Rattle.st_image.specs.declared.counts.Counts.{Counts}
 use Rattle.st_image.specs.Counts.{CountsItems, most_counted, posts_of, ran_of, weigh}
-use Rattle.st_image.specs.Earlier.{Earlier}
+use Rattle.st_image.specs.EarlierCounts.{Earlier}
 
 pub weigh_append : (f : Item → ℕ) (xs ys : List Item) → weigh f (xs ++ ys) ≡ weigh f xs + weigh f ys
 weigh_append f [] ys = omega arith

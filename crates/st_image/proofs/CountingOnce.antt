@@ -12,8 +12,8 @@ use Rattle.st_turn.specs.Claims.{ClaimView, IsSound}
 use Rattle.st_turn.specs.Surviving.{SameSteps, SurvivesAt}
 use Rattle.st_turn.proofs.ClaimsLater.{claims_survive}
 use Rattle.st_turn.specs.Steps.{own_steps}
-use Rattle.st_image.specs.declared.items.Item.{Item}
-use Rattle.st_image.specs.declared.items.Item.TheVariants.{Ran}
+use Rattle.st_image.specs.declared.history.Item.{Item}
+use Rattle.st_image.specs.declared.history.Item.TheVariants.{Ran}
 use Rattle.st_image.specs.Worlds.{Constants, World, WorldActor, change}
 use Rattle.st_image.specs.Replay.{after_run, next, replay, with_body}
 use Rattle.st_image.specs.ActResults.{world_after}

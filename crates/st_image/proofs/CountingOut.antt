@@ -6,12 +6,12 @@ use Rattle.st_classes.specs.declared.values.ActorId.{ActorId}
 use Rattle.st_classes.specs.declared.edits.Edit.{Edit}
 use Rattle.st_image.specs.Worlds.{World, changed, change_at}
 use Rattle.st_image.specs.ClaimsOut.{claims_of, one_less, trimmed}
-use Rattle.st_image.specs.Earlier.{Earlier}
+use Rattle.st_image.specs.EarlierCounts.{Earlier}
 use Rattle.st_image.specs.Images.{ImageView, world}
 use Rattle.st_image.specs.Scheduling.{IsNextReady, is_free_at, is_ready_at}
 use Rattle.st_image.specs.ActorViews.{ActorsView, IsNextFree, SameOut, Shows, is_free_in}
 use Rattle.st_turn.specs.declared.tally.Tally.{Tally}
-use Rattle.st_image.specs.declared.items.Item.{Item}
+use Rattle.st_image.specs.declared.history.Item.{Item}
 use Rattle.st_image.specs.declared.settings.Settings.{Settings}
 use Rattle.st_classes.specs.declared.refusals.Refusal.{Refusal}
 use Rattle.st_classes.specs.declared.refusals.Refusal.TheVariants.{Stale, Changed, HistoryFull}

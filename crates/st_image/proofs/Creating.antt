@@ -14,8 +14,8 @@ use Rattle.st_turn.specs.declared.body.Body.{Body}
 use Rattle.st_turn.specs.declared.body.Phase.TheVariants.{Fresh}
 use Rattle.st_turn.specs.BodyFits.{has_instances}
 use Rattle.st_image.specs.declared.settings.Settings.{Settings}
-use Rattle.st_image.specs.declared.items.Item.{Item}
-use Rattle.st_image.specs.declared.items.Item.TheVariants.{Created}
+use Rattle.st_image.specs.declared.history.Item.{Item}
+use Rattle.st_image.specs.declared.history.Item.TheVariants.{Created}
 use Rattle.st_image.specs.Worlds.{World}
 use Rattle.st_image.specs.Images.{world_of, create_rules, no_room, Standing}
 use Rattle.st_image.specs.ActorViews.{ActorView, new_actor_view}

@@ -25,8 +25,8 @@ use Rattle.st_turn.specs.Idle.{is_idle}
 use Rattle.st_mailbox.specs.declared.messages.Message.{Message}
 use Rattle.st_mailbox.specs.declared.messages.Sender.{Sender}
 use Rattle.st_mailbox.specs.declared.messages.Sender.TheVariants.{Client, Actor}
-use Rattle.st_image.specs.declared.items.Item.{Item}
-use Rattle.st_image.specs.declared.items.Item.TheVariants.{Edited, Created, Posted, Closed, Begun, Ran}
+use Rattle.st_image.specs.declared.history.Item.{Item}
+use Rattle.st_image.specs.declared.history.Item.TheVariants.{Edited, Created, Posted, Closed, Begun, Ran}
 use Rattle.st_image.specs.Worlds.{Constants, World, WorldActor, change, change_at, pending}
 use Rattle.st_image.specs.Replay.{ActResult, with_accepted, after_act, after_begin, with_begun, after_close, create_result, after_create, act_result, after_edit, failed_act, is_local, new_world_actor, next, next_message, only_if, post_result, after_post, after_post_by, replay, after_step, after_step_of, attempted_act, with_body, with_last, with_new, with_result}
 use Rattle.st_image.specs.ActResults.{world_after}

@@ -7,8 +7,8 @@ use Rattle.st_classes.specs.Refusals.{first_of}
 use Rattle.st_classes.specs.EditRules.{edit_rules}
 use Rattle.st_classes.specs.MethodSuits.{edit_suits}
 use Rattle.st_image.specs.declared.settings.Settings.{Settings}
-use Rattle.st_image.specs.declared.items.Item.{Item}
-use Rattle.st_image.specs.declared.items.Item.TheVariants.{Edited}
+use Rattle.st_image.specs.declared.history.Item.{Item}
+use Rattle.st_image.specs.declared.history.Item.TheVariants.{Edited}
 use Rattle.st_image.specs.Worlds.{World}
 use Rattle.st_image.specs.Images.{ImageView, constants, world, world_of, appended, edits_made, run_rules, no_room, Standing}
 use Rattle.st_image.specs.Replay.{replay}

@@ -6,8 +6,8 @@ use Rattle.std.proofs.lemmas.List.{length-append}
 use Rattle.std.proofs.lemmas.List.Elements.{All-head, All-tail}
 use Rattle.st_classes.specs.declared.values.ActorId.{ActorId}
 use Rattle.st_classes.specs.declared.edits.Edit.{Edit}
-use Rattle.st_image.specs.declared.items.Item.{Item}
-use Rattle.st_image.specs.declared.items.Item.TheVariants.{Edited, Created, Posted, Closed, Begun, Ran}
+use Rattle.st_image.specs.declared.history.Item.{Item}
+use Rattle.st_image.specs.declared.history.Item.TheVariants.{Edited, Created, Posted, Closed, Begun, Ran}
 use Rattle.st_image.specs.declared.settings.Settings.{Settings}
 use Rattle.st_image.specs.Worlds.{Constants, World}
 use Rattle.st_image.specs.Replay.{after_step, next, replay}
@@ -17,7 +17,7 @@ use Rattle.st_image.specs.ActorViews.{ActorView}
 use Rattle.st_image.specs.ActResults.{constants_of, world_after}
 use Rattle.st_image.specs.WorldInvariant.{IsSoundItem, IsWorld, first_turn}
 use Rattle.st_image.specs.ImageInvariant.{IsImage}
-use Rattle.st_image.specs.Newest.{newest}
+use Rattle.st_image.specs.NewestResults.{newest}
 use Rattle.st_image.specs.Failures.{Failure, KeptFailures, failure_at, failure_by, failure_in, failures_from, failures_kept, failures_through, kept_after}
 use Rattle.st_image.proofs.Stepping.{after_then, bound, cond_some, ran_after}
 use Rattle.st_image.proofs.Lasting.{named_more, next_keeps, stepped_keeps}

@@ -15,8 +15,8 @@ use Rattle.st_turn.specs.Claims.{ClaimView, IsSound}
 use Rattle.st_turn.specs.Surviving.{SurvivesAt}
 use Rattle.st_turn.proofs.ClaimsLater.{one_fewer_survives}
 use Rattle.st_turn.proofs.LastSteps.{before_last}
-use Rattle.st_image.specs.declared.items.Item.{Item}
-use Rattle.st_image.specs.declared.items.Item.TheVariants.{Ran}
+use Rattle.st_image.specs.declared.history.Item.{Item}
+use Rattle.st_image.specs.declared.history.Item.TheVariants.{Ran}
 use Rattle.st_image.specs.declared.settings.Settings.{Settings}
 use Rattle.st_image.specs.Worlds.{Constants, World, WorldActor, change, change_at}
 use Rattle.st_image.specs.Replay.{after_step, with_body}

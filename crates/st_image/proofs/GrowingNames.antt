@@ -27,8 +27,8 @@ use Rattle.st_turn.proofs.KeepingActs.{FitsAct}
 use Rattle.st_turn.proofs.Keeping.{FitsStep}
 use Rattle.st_mailbox.specs.declared.messages.Message.{Message}
 use Rattle.st_mailbox.specs.declared.messages.Sender.TheVariants.{Actor as Acting}
-use Rattle.st_image.specs.declared.items.Item.{Item}
-use Rattle.st_image.specs.declared.items.Item.TheVariants.{Edited, Created, Posted, Closed, Begun, Ran}
+use Rattle.st_image.specs.declared.history.Item.{Item}
+use Rattle.st_image.specs.declared.history.Item.TheVariants.{Edited, Created, Posted, Closed, Begun, Ran}
 use Rattle.st_image.specs.Worlds.{Constants, World, WorldActor, change, pending}
 use Rattle.st_image.specs.PostRules.{argument_fits, message_suits, number_rule, post_rules}
 use Rattle.st_mailbox.specs.Mailboxes.{box_rules}

@@ -38,7 +38,7 @@ use Rattle.st_image.proofs.Lists.{off_append, first_here, first_later}
 use Rattle.st_image.proofs.Editing.{edited_world}
 use Rattle.st_image.specs.Replay.{replay}
 use Rattle.st_classes.specs.MethodSuits.{suits}
-use Rattle.st_image.specs.declared.items.Item.TheVariants.{Edited}
+use Rattle.st_image.specs.declared.history.Item.TheVariants.{Edited}
 use Rattle.st_image.specs.Worlds.{World}
 use Rattle.st_image.specs.Images.{ImageView, constants, world, appended, edits_made, run_rules}
 use Rattle.st_image.specs.WorldInvariant.{BeginsWithKernel}

@@ -22,8 +22,8 @@ use Rattle.st_mailbox.specs.declared.messages.Message.{Message}
 use Rattle.st_mailbox.specs.declared.messages.Sender.{Sender}
 use Rattle.st_mailbox.specs.declared.messages.Sender.TheVariants.{Client, Actor}
 use Rattle.st_image.specs.declared.settings.Settings.{Settings}
-use Rattle.st_image.specs.declared.items.Item.{Item}
-use Rattle.st_image.specs.declared.items.Item.TheVariants.{Edited, Created, Posted, Closed, Begun, Ran}
+use Rattle.st_image.specs.declared.history.Item.{Item}
+use Rattle.st_image.specs.declared.history.Item.TheVariants.{Edited, Created, Posted, Closed, Begun, Ran}
 use Rattle.st_image.specs.Worlds.{Constants, World, WorldActor, change, change_at, pending}
 use Rattle.st_image.specs.PostRules.{IsClients, post_rules}
 use Rattle.st_image.specs.Replay.{with_accepted, with_begun, new_world_actor, next, next_message, only_if, with_last, with_new}

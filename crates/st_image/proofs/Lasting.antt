@@ -41,8 +41,8 @@ use Rattle.st_turn.proofs.Leading.{IsDispatched, Led, LeadsTo, step_leads}
 use Rattle.st_mailbox.specs.declared.messages.Message.{Message}
 use Rattle.st_mailbox.specs.declared.messages.Sender.{Sender}
 use Rattle.st_mailbox.specs.declared.messages.Sender.TheVariants.{Client, Actor as Acting}
-use Rattle.st_image.specs.declared.items.Item.{Item}
-use Rattle.st_image.specs.declared.items.Item.TheVariants.{Edited, Created, Posted, Closed, Begun, Ran}
+use Rattle.st_image.specs.declared.history.Item.{Item}
+use Rattle.st_image.specs.declared.history.Item.TheVariants.{Edited, Created, Posted, Closed, Begun, Ran}
 use Rattle.st_image.specs.Worlds.{Constants, World, WorldActor, start, change, change_at, pending}
 use Rattle.st_image.specs.PostRules.{argument_fits, message_fits}
 use Rattle.st_image.specs.Replay.{ActResult as Acted, with_accepted, after_act, after_begin, with_begun, after_close, create_result, after_create, act_result, after_edit, failed_act, is_local, new_world_actor, next, next_message, post_result, after_post, after_post_by, after_step, after_step_of, attempted_act, with_body, with_last, with_new, with_result}

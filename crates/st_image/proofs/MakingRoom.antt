@@ -6,10 +6,10 @@ use Rattle.st_classes.specs.declared.edits.Edit.{Edit}
 use Rattle.st_turn.specs.declared.tally.Tally.{Tally}
 use Rattle.st_turn.specs.Tallies.{sends_of}
 use Rattle.st_image.specs.declared.counts.Counts.{Counts}
-use Rattle.st_image.specs.declared.items.Item.{Item}
+use Rattle.st_image.specs.declared.history.Item.{Item}
 use Rattle.st_image.specs.declared.settings.Settings.{Settings}
 use Rattle.st_image.specs.Changes.{change_count}
-use Rattle.st_image.specs.Earlier.{Earlier}
+use Rattle.st_image.specs.EarlierCounts.{Earlier}
 use Rattle.st_image.specs.Failures.{KeptFailures}
 use Rattle.st_image.specs.Worlds.{Constants, World}
 use Rattle.st_image.specs.ActorViews.{ActorView}

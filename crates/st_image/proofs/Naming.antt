@@ -3,7 +3,7 @@ use Rattle.std.proofs.Common.{◌≡◌, ℕ, ◌++◌, [], ◌∷◌, List, Boo
 use Rattle.st_classes.specs.declared.edits.Edit.{Edit}
 use Rattle.st_classes.specs.Names.{is_name, interned}
 use Rattle.st_image.specs.declared.settings.Settings.{Settings}
-use Rattle.st_image.specs.declared.items.Item.{Item}
+use Rattle.st_image.specs.declared.history.Item.{Item}
 use Rattle.st_turn.specs.declared.tally.Tally.{Tally}
 use Rattle.st_image.specs.Tallies.{CountsSends}
 use Rattle.st_image.specs.Failures.{failures_through}

@@ -7,7 +7,7 @@ use Rattle.st_turn.specs.declared.body.Outcome.{Outcome}
 use Rattle.st_turn.specs.declared.body.Phase.{Phase}
 use Rattle.st_turn.specs.declared.body.Phase.TheVariants.{Fresh, Start, Frames, Done}
 use Rattle.st_classes.specs.declared.refusals.Refusal.TheVariants.{Expired}
-use Rattle.st_image.specs.Newest.{Kept, kept_of, kept_outcome, kept_with, newest, or_pending}
+use Rattle.st_image.specs.NewestResults.{Kept, kept_of, kept_outcome, kept_with, newest, or_pending}
 use Rattle.st_image.specs.Outcomes.{outcome_in}
 use Rattle.st_turn.specs.declared.body.Body.{Body}
 use Rattle.st_image.specs.Worlds.{WorldActor}

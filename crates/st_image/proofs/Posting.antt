@@ -9,14 +9,14 @@ use Rattle.st_mailbox.specs.declared.messages.Message.{Message}
 use Rattle.st_mailbox.specs.declared.messages.Sender.{Sender}
 use Rattle.st_mailbox.specs.declared.messages.Sender.TheVariants.{Client, Actor}
 use Rattle.st_image.specs.declared.settings.Settings.{Settings}
-use Rattle.st_image.specs.declared.items.Item.{Item}
-use Rattle.st_image.specs.declared.items.Item.TheVariants.{Posted}
+use Rattle.st_image.specs.declared.history.Item.{Item}
+use Rattle.st_image.specs.declared.history.Item.TheVariants.{Posted}
 use Rattle.st_image.specs.Worlds.{World, WorldActor, change, change_at}
 use Rattle.st_image.specs.Replay.{with_accepted, with_last}
 use Rattle.st_image.specs.PostRules.{IsClients, post_rules}
 use Rattle.st_turn.specs.declared.tally.Tally.{Tally}
 use Rattle.st_image.specs.ClaimsOut.{trimmed}
-use Rattle.st_image.specs.Earlier.{Earlier}
+use Rattle.st_image.specs.EarlierCounts.{Earlier}
 use Rattle.st_image.specs.Counts.{most_counted}
 use Rattle.st_image.specs.Images.{ImageView, Standing, counts_of, world, world_of, image_post_rules, no_room, too_many_posts, accepted_by}
 use Rattle.st_image.specs.ActorViews.{ActorView, actor_view, view_with_message}

@@ -36,8 +36,8 @@ use Rattle.st_turn.specs.declared.body.Phase.TheVariants.{Fresh, Start, Frames, 
 use Rattle.st_turn.specs.FrameViews.{FramesView}
 use Rattle.st_turn.specs.Objects.{class_in}
 use Rattle.st_turn.specs.Steps.{Asked, next as leads, act_of, act_or, actor_act, arguments, asked_by, asked_in, class_act, dispatch_body, instruction_step, frames_step, receiver_below, send_body, step, step_in}
-use Rattle.st_image.specs.declared.items.Item.{Item}
-use Rattle.st_image.specs.declared.items.Item.TheVariants.{Ran}
+use Rattle.st_image.specs.declared.history.Item.{Item}
+use Rattle.st_image.specs.declared.history.Item.TheVariants.{Ran}
 use Rattle.st_image.specs.Worlds.{Constants, World, WorldActor, change}
 use Rattle.st_image.specs.Replay.{Trail, act_result, after_act, after_run, after_step, after_step_of, next, replay, trail_after, with_body}
 use Rattle.st_image.specs.ActResults.{world_after}

@@ -6,8 +6,8 @@ use Rattle.std.proofs.lemmas.List.{length-map}
 use Rattle.std.proofs.lemmas.List.Elements.{All-map, All-nil, All-weaker}
 use Rattle.std.proofs.lemmas.Option.{slice_get-map}
 use Rattle.st_classes.specs.declared.edits.Edit.{Edit}
-use Rattle.st_image.specs.declared.items.Item.{Item}
-use Rattle.st_image.specs.declared.items.Item.TheVariants.{Edited, Created, Posted, Closed, Begun, Ran}
+use Rattle.st_image.specs.declared.history.Item.{Item}
+use Rattle.st_image.specs.declared.history.Item.TheVariants.{Edited, Created, Posted, Closed, Begun, Ran}
 use Rattle.st_image.specs.declared.settings.Settings.{Settings}
 use Rattle.st_image.specs.Worlds.{Constants, World, WorldActor}
 use Rattle.st_image.specs.Replay.{replay}
@@ -21,7 +21,7 @@ use Rattle.st_image.specs.ActorViews.{ActorView, AreActors, Shows, actor_view, i
 use Rattle.st_image.specs.ClaimsOut.{claims_of}
 use Rattle.st_image.specs.ActResults.{constants_of}
 use Rattle.st_image.specs.Changes.{change_count}
-use Rattle.st_image.specs.Earlier.{Earlier}
+use Rattle.st_image.specs.EarlierCounts.{Earlier}
 use Rattle.st_image.specs.ImageInvariant.{FitsBase, IsImage, turns_open}
 use Rattle.st_image.proofs.Bases.{base_turns}
 use Rattle.st_image.proofs.GrowingEdits.{replay_edits}

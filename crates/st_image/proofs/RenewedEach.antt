@@ -4,7 +4,7 @@ use Rattle.std.proofs.Math.Seq.{set-append_seam}
 use Rattle.std.proofs.lemmas.List.{append-nil, drop_all, length-map, length-take-le, map-append, take_all}
 use Rattle.st_classes.proofs.LawLists.{slice_get_here, take_at_place}
 use Rattle.st_turn.specs.declared.body.Outcome.{Outcome}
-use Rattle.st_image.specs.Newest.{Newest, kept_in}
+use Rattle.st_image.specs.NewestResults.{Newest, kept_in}
 use Rattle.st_image.specs.ActorViews.{ActorView, last_kept, view_anew}
 use Rattle.st_image.proofs.Changing.{within_back}
 use Rattle.st_image.proofs.OneMore.{rest_at}

@@ -1,6 +1,6 @@
 -- A history with one item more.
 use Rattle.std.proofs.Common.{◌≡◌, ◌++◌, [], ◌∷◌, List, Option, Some, None, refl, ap, ◌∙◌, unwrap_or, option_and_then}
-use Rattle.st_image.specs.declared.items.Item.{Item}
+use Rattle.st_image.specs.declared.history.Item.{Item}
 use Rattle.st_image.specs.Worlds.{Constants, World}
 use Rattle.st_image.specs.Replay.{next, replay}
 use Rattle.st_image.specs.Images.{world_of}

@@ -12,7 +12,7 @@ use Rattle.st_mailbox.specs.Mailboxes.{box_rules}
 use Rattle.st_mailbox.specs.declared.messages.Message.{Message}
 use Rattle.st_image.specs.declared.actor_part.ActorPart.{ActorPart}
 use Rattle.st_image.specs.Worlds.{World, WorldActor, pending}
-use Rattle.st_image.specs.Newest.{Kept, kept_of, kept_with}
+use Rattle.st_image.specs.NewestResults.{Kept, kept_of, kept_with}
 use Rattle.st_image.specs.Parts.{result_of}
 use Rattle.st_image.specs.ClaimsOut.{claims_of}
 

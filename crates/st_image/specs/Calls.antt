@@ -10,8 +10,8 @@ use Rattle.st_classes.specs.declared.refusals.Refusal.TheVariants.{NoMemory}
 use Rattle.st_classes.specs.Names.{interned, intern_rules}
 use Rattle.st_classes.specs.Refusals.{Rule, first_of}
 use Rattle.st_mailbox.specs.declared.messages.Message.{Message}
-use Rattle.st_image.specs.declared.items.Item.{Item}
-use Rattle.st_image.specs.declared.items.Item.TheVariants.{Edited, Created, Posted, Closed}
+use Rattle.st_image.specs.declared.history.Item.{Item}
+use Rattle.st_image.specs.declared.history.Item.TheVariants.{Edited, Created, Posted, Closed}
 use Rattle.st_image.specs.Images.{ImageView, world, appended, image_define_rules, image_remove_rules, image_reparent_rules, close_rules, create_rules, image_post_rules, accepted_by}
 use Rattle.st_image.specs.Installs.{AnswersInstall, LeavesNames}
 

@@ -1,8 +1,8 @@
 -- How often a history changed the body of each actor.
 use Rattle.std.specs.Prelude.{◌≡◌, ◌==◌, ℕ, List, Bool, false, Some, count_by, slice_index_or, slice_get}
 use Rattle.std.specs.Option.{option_map}
-use Rattle.st_image.specs.declared.items.Item.{Item}
-use Rattle.st_image.specs.declared.items.Item.TheVariants.{Begun, Ran}
+use Rattle.st_image.specs.declared.history.Item.{Item}
+use Rattle.st_image.specs.declared.history.Item.TheVariants.{Begun, Ran}
 use Rattle.st_image.specs.Worlds.{Constants, World, WorldActor}
 use Rattle.st_image.specs.Replay.{replay}
 

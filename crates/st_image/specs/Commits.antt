@@ -12,8 +12,8 @@ use Rattle.st_turn.specs.Idle.{is_idle}
 use Rattle.st_turn.specs.Claims.{ClaimView}
 use Rattle.st_turn.specs.Surviving.{SurvivesAt}
 use Rattle.st_turn.specs.Steps.{Asked, asked, is_outer, step}
-use Rattle.st_image.specs.declared.items.Item.{Item}
-use Rattle.st_image.specs.declared.items.Item.TheVariants.{Begun, Ran}
+use Rattle.st_image.specs.declared.history.Item.{Item}
+use Rattle.st_image.specs.declared.history.Item.TheVariants.{Begun, Ran}
 use Rattle.st_image.specs.Worlds.{WorldActor, pending}
 use Rattle.st_image.specs.Images.{ImageView, appended, no_room, too_many_steps, world}
 use Rattle.st_image.specs.Calls.{AnswersExactly}

@@ -2,7 +2,7 @@
 -- (`AcceptedOnce`), each sender's in sending order (`InSendingOrder`), and none accepted after close
 -- (`NoneAfterClose`).
 use Rattle.std.specs.Prelude.{◌≡◌, ℕ, List, ◌++◌, Some, slice_get, All, false}
-use Rattle.st_image.specs.declared.items.Item.{Item}
+use Rattle.st_image.specs.declared.history.Item.{Item}
 use Rattle.st_image.specs.Worlds.{Constants, World, WorldActor}
 use Rattle.st_image.specs.Replay.{replay}
 use Rattle.st_image.specs.Senders.{AcceptedOnce, BegunInSendingOrder, InSendingOrder}

@@ -6,14 +6,14 @@ use Rattle.st_turn.specs.declared.body.Body.{Body}
 use Rattle.st_turn.specs.declared.body.Outcome.TheVariants.{Fault as Faulted}
 use Rattle.st_turn.specs.declared.body.Phase.{Phase}
 use Rattle.st_turn.specs.declared.body.Phase.TheVariants.{Done}
-use Rattle.st_image.specs.declared.items.Item.{Item}
-use Rattle.st_image.specs.declared.items.Item.TheVariants.{Ran}
+use Rattle.st_image.specs.declared.history.Item.{Item}
+use Rattle.st_image.specs.declared.history.Item.TheVariants.{Ran}
 use Rattle.st_image.specs.Worlds.{Constants, World, WorldActor}
 use Rattle.st_image.specs.Replay.{after_step, next}
 use Rattle.st_image.specs.ActResults.{world_after}
 use Rattle.st_image.specs.Counts.{ran_of}
 use Rattle.st_image.specs.Images.{ImageView, constants}
-use Rattle.st_image.specs.Newest.{newest}
+use Rattle.st_image.specs.NewestResults.{newest}
 use Rattle.st_image.specs.WorldInvariant.{first_turn}
 
 -- A turn that ended with a fault: its actor, its number, the fault, the image's number of the step that failed, and the actor's body

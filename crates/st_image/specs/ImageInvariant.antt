@@ -8,9 +8,9 @@ use Rattle.st_classes.specs.EditLists.{AreLawful, AllSuit, AllSound}
 use Rattle.st_turn.specs.declared.body.Body.{Body}
 use Rattle.st_turn.specs.BodyFits.{Referents, Fits}
 use Rattle.st_turn.specs.Idle.{is_idle}
-use Rattle.st_image.specs.declared.items.Item.{Item}
+use Rattle.st_image.specs.declared.history.Item.{Item}
 use Rattle.st_image.specs.declared.settings.Settings.{Settings}
-use Rattle.st_image.specs.Earlier.{Earlier}
+use Rattle.st_image.specs.EarlierCounts.{Earlier}
 use Rattle.st_image.specs.Failures.{KeptFailures, failures_kept, failures_through}
 use Rattle.st_image.specs.Worlds.{World, WorldActor}
 use Rattle.st_image.specs.Replay.{replay}

@@ -10,13 +10,13 @@ use Rattle.st_classes.specs.Kernel.{kernel_selectors}
 use Rattle.st_classes.specs.Classes.{is_class}
 use Rattle.st_classes.specs.EditRules.{is_value_class, define_rules, remove_rules, reparent_rules}
 use Rattle.st_mailbox.specs.declared.messages.Message.{Message}
-use Rattle.st_image.specs.declared.items.Item.{Item}
+use Rattle.st_image.specs.declared.history.Item.{Item}
 use Rattle.st_image.specs.declared.settings.Settings.{Settings}
 use Rattle.st_turn.specs.declared.tally.Tally.{Tally}
 use Rattle.st_image.specs.Worlds.{Constants, World, WorldActor, start, is_capacity}
 use Rattle.st_image.specs.PostRules.{post_rules}
 use Rattle.st_image.specs.Replay.{replay}
-use Rattle.st_image.specs.Earlier.{Earlier, nothing_earlier}
+use Rattle.st_image.specs.EarlierCounts.{Earlier, nothing_earlier}
 use Rattle.st_image.specs.Counts.{edits_of, most_counted, posts_of, ran_of, weigh}
 use Rattle.st_image.specs.declared.counts.Counts.{Counts}
 

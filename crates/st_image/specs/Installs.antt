@@ -18,7 +18,7 @@ use Rattle.st_compile.specs.NeededNames.{InternsFirst, interned_all, names_rule,
 use Rattle.st_compile.specs.CompileRules.{code_rules}
 use Rattle.st_compile.specs.Scopes.{pattern_selector}
 use Rattle.st_compile.specs.CompiledMethod.{IsCompiled}
-use Rattle.st_image.specs.declared.items.Item.TheVariants.{Edited}
+use Rattle.st_image.specs.declared.history.Item.TheVariants.{Edited}
 use Rattle.st_image.specs.Images.{ImageView, world, appended, run_rules}
 
 -- the kernel has a method of the class for the selector with this number

@@ -1,6 +1,6 @@
 pub mod Worlds
 pub mod Parts
-pub mod Earlier
+pub mod EarlierCounts
 pub mod Counts
 pub mod PostRules
 pub mod Replay
@@ -11,7 +11,7 @@ pub mod Senders
 pub mod Delivery
 pub mod Starts
 pub mod WorldInvariant
-pub mod Newest
+pub mod NewestResults
 pub mod Outcomes
 pub mod Clients
 pub mod Scheduling

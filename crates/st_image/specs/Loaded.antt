@@ -6,7 +6,7 @@ use Rattle.st_classes.specs.declared.refusals.Refusal.TheVariants.{BadImage, NoM
 use Rattle.st_classes.specs.declared.refusals.ImagePlace.TheVariants as place
 use Rattle.st_image.specs.declared.actor_part.ActorPart.{ActorPart}
 use Rattle.st_image.specs.declared.counts.Counts.{Counts}
-use Rattle.st_image.specs.Earlier.{counted_earlier}
+use Rattle.st_image.specs.EarlierCounts.{counted_earlier}
 use Rattle.st_image.specs.Images.{ImageView}
 use Rattle.st_image.specs.Parts.{actor_of, world_of_parts}
 use Rattle.st_image.specs.SenderNumbers.{HasSenders}

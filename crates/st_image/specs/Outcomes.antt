@@ -4,7 +4,7 @@ use Rattle.st_classes.specs.declared.values.ActorId.{ActorId}
 use Rattle.st_classes.specs.declared.refusals.Refusal.{Refusal}
 use Rattle.st_classes.specs.declared.refusals.Refusal.TheVariants.{UnknownActor, Expired}
 use Rattle.st_turn.specs.declared.body.Outcome.{Outcome}
-use Rattle.st_image.specs.Newest.{or_pending}
+use Rattle.st_image.specs.NewestResults.{or_pending}
 use Rattle.st_image.specs.Worlds.{WorldActor}
 use Rattle.st_image.specs.Images.{ImageView, world}
 use Rattle.st_image.specs.WorldInvariant.{first_turn}

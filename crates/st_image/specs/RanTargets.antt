@@ -12,8 +12,8 @@ use Rattle.st_classes.specs.LookupLaws.{IsTarget}
 use Rattle.st_turn.specs.declared.acts.Act.{Act}
 use Rattle.st_turn.specs.declared.body.Body.{Body}
 use Rattle.st_turn.specs.Steps.{actor_act, arrival, asked, class_act}
-use Rattle.st_image.specs.declared.items.Item.{Item}
-use Rattle.st_image.specs.declared.items.Item.TheVariants.{Edited, Created, Posted, Closed, Begun, Ran}
+use Rattle.st_image.specs.declared.history.Item.{Item}
+use Rattle.st_image.specs.declared.history.Item.TheVariants.{Edited, Created, Posted, Closed, Begun, Ran}
 use Rattle.st_image.specs.Worlds.{Constants, World, WorldActor, change}
 use Rattle.st_image.specs.Replay.{act_result, after_act, after_step, replay, trail_after, with_body}
 use Rattle.st_image.specs.Images.{ImageView, constants}

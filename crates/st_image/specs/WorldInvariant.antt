@@ -12,8 +12,8 @@ use Rattle.st_turn.specs.Idle.{is_idle}
 use Rattle.st_turn.specs.Objects.{class_in}
 use Rattle.st_turn.specs.BodyFits.{Referents, FitsPhase, Fits}
 use Rattle.st_mailbox.specs.declared.messages.Message.{Message}
-use Rattle.st_image.specs.declared.items.Item.{Item}
-use Rattle.st_image.specs.declared.items.Item.TheVariants.{Edited}
+use Rattle.st_image.specs.declared.history.Item.{Item}
+use Rattle.st_image.specs.declared.history.Item.TheVariants.{Edited}
 use Rattle.st_image.specs.declared.settings.Settings.{Settings}
 use Rattle.st_image.specs.Worlds.{Constants, World, WorldActor, pending}
 use Rattle.st_image.specs.Replay.{replay}

@@ -66,7 +66,7 @@ impl<M: Mailbox> Actor<M> {
     ghost use Rattle.st_turn.specs.StepResults.{IsAct};
     ghost use Rattle.st_turn.specs.Steps.{outer, reply_body};
     ghost use Rattle.st_mailbox.specs.Mailboxes.{box_rules};
-    ghost use Rattle.st_image.specs.Newest.{kept_outcome};
+    ghost use Rattle.st_image.specs.NewestResults.{kept_outcome};
     ghost use Rattle.st_image.specs.ActorViews.{view_after_begin, is_ready_view, new_actor_view, view_after_steps, view_checked_out, view_with_message};
 
     /// A new actor with a body and an open mailbox.

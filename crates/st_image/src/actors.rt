@@ -6,7 +6,7 @@ mod loading;
 mod renewal;
 
 use crate::actor::Actor;
-use crate::letting_go::let_go;
+use crate::dropping::let_go;
 use crate::recycled::Recycled;
 use st_bitset::bitset::BitSet;
 use st_classes::faults::Fault;

@@ -4,8 +4,8 @@ ghost use Rattle.st_image.specs.Loading.{LeadsToOne, LoadsAll, LoadsEdit, LoadsN
 
 mod finishing;
 
+use crate::dropping::let_go;
 use crate::edit_text::EditText;
-use crate::letting_go::let_go;
 use st_classes::edits::Edit;
 use st_classes::methods::Method;
 use st_classes::names::Names;

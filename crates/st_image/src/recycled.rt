@@ -49,7 +49,7 @@ impl Recycled {
         let spare = self.spare_for(claim.after());
         drop(self.body.take());
         if claim.goes_on() {
-            claim.make_twin(alloc, spare);
+            claim.make_next_copy(alloc, spare);
         }
     }
 

@@ -1,7 +1,7 @@
 //! The newest results.
 ghost use Rattle.std.specs.Prelude.{◌≡◌, ◌<◌, ◌≤◌, ◌+◌, ◌-◌, ◌^◌, ◌++◌, ◌∷◌, [], length, None, slice_get, OnOk, OnErr, IfOk};
 ghost use Rattle.std.specs.Option.{option_copied};
-ghost use Rattle.st_image.specs.Newest.{HasRoom, kept_in, kept_of, kept_result, newest};
+ghost use Rattle.st_image.specs.NewestResults.{HasRoom, kept_in, kept_of, kept_result, newest};
 ghost use Rattle.st_image.specs.Parts.{result_of};
 
 use circular_buffer::HeapCircularBuffer;
@@ -23,7 +23,7 @@ pub(crate) struct Results {
 impl Model for Results {
     ghost use Rattle.std.specs.Prelude.{◌≤◌, length};
     ghost use Rattle.st_turn.specs.declared.body.Outcome.{Outcome as OutcomeOf};
-    ghost use Rattle.st_image.specs.Newest.{Newest};
+    ghost use Rattle.st_image.specs.NewestResults.{Newest};
 
     ghost Value = { Newest OutcomeOf };
 

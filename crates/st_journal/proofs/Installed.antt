@@ -7,7 +7,7 @@ use Rattle.st_classes.specs.declared.edits.Edit.TheVariants.{Install}
 use Rattle.st_classes.specs.declared.methods.MethodParts.{MethodParts}
 use Rattle.st_reader.specs.Syntax.{Method}
 use Rattle.st_compile.specs.NeededNames.{interned_all, needed_texts}
-use Rattle.st_image.specs.declared.items.Item.TheVariants.{Edited}
+use Rattle.st_image.specs.declared.history.Item.TheVariants.{Edited}
 use Rattle.st_image.specs.Images.{ImageView, appended, world}
 use Rattle.st_image.specs.Installs.{Installs}
 use Rattle.st_image.specs.WorldInvariant.{IsLawful}

@@ -14,8 +14,8 @@ use Rattle.st_classes.specs.Refusals.{first_of}
 use Rattle.st_classes.proofs.LawLists.{no_rule}
 use Rattle.st_turn.specs.BodyFits.{has_instances}
 use Rattle.st_mailbox.specs.declared.messages.Message.{Message}
-use Rattle.st_image.specs.declared.items.Item.{Item}
-use Rattle.st_image.specs.declared.items.Item.TheVariants.{Edited, Created, Posted, Closed, Begun, Ran}
+use Rattle.st_image.specs.declared.history.Item.{Item}
+use Rattle.st_image.specs.declared.history.Item.TheVariants.{Edited, Created, Posted, Closed, Begun, Ran}
 use Rattle.st_image.specs.PostRules.{post_rules}
 use Rattle.st_image.specs.Replay.{next, with_new}
 use Rattle.st_image.specs.WorldInvariant.{IsWorld}

@@ -8,8 +8,8 @@ use Rattle.st_classes.specs.declared.methods.MethodParts.{MethodParts}
 use Rattle.st_reader.specs.Spelling.{OneReading, Spells}
 use Rattle.st_reader.specs.Syntax.{Method}
 use Rattle.st_compile.specs.CompiledMethod.{IsCompiled}
-use Rattle.st_image.specs.declared.items.Item.{Item}
-use Rattle.st_image.specs.declared.items.Item.TheVariants.{Edited, Created, Posted, Closed, Begun, Ran}
+use Rattle.st_image.specs.declared.history.Item.{Item}
+use Rattle.st_image.specs.declared.history.Item.TheVariants.{Edited, Created, Posted, Closed, Begun, Ran}
 use Rattle.st_image.specs.CompiledEdits.{IsCompiledFrom}
 use Rattle.st_image.proofs.CompiledEdits.{method_more}
 use Rattle.st_image.proofs.LoadedNames.{compiled_once}

@@ -9,8 +9,8 @@ use Rattle.st_classes.specs.EditLists.{AllSound, IsSoundEdit}
 use Rattle.st_classes.specs.Names.{interned, is_name}
 use Rattle.st_classes.proofs.LawLists.{slice_get_here, take_whole}
 use Rattle.st_reader.specs.Spelling.{OneReading}
-use Rattle.st_image.specs.declared.items.Item.{Item}
-use Rattle.st_image.specs.declared.items.Item.TheVariants.{Edited, Created, Posted, Closed, Begun, Ran}
+use Rattle.st_image.specs.declared.history.Item.{Item}
+use Rattle.st_image.specs.declared.history.Item.TheVariants.{Edited, Created, Posted, Closed, Begun, Ran}
 use Rattle.st_image.specs.Checkpoints.{BeginsAnew}
 use Rattle.st_image.specs.CompiledEdits.{AllCompiled, IsCompiledEdit, IsCompiledFrom}
 use Rattle.st_image.specs.Images.{ImageView, constants, world, world_of}

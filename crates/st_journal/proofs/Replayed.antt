@@ -1,6 +1,6 @@
 -- An item that a call of an image appended leads from the image's world to the new one.
 use Rattle.std.proofs.Common.{◌≡◌, ◌++◌, [], ◌∷◌, Option, Some, sym, ap, ◌∙◌, option_and_then}
-use Rattle.st_image.specs.declared.items.Item.{Item}
+use Rattle.st_image.specs.declared.history.Item.{Item}
 use Rattle.st_image.specs.ClaimsOut.{claims_of}
 use Rattle.st_image.specs.Images.{ImageView, Standing, appended, constants, world}
 use Rattle.st_image.specs.Replay.{next, replay}

@@ -2,8 +2,8 @@
 use Rattle.std.proofs.Common.{arith, ◌≤◌, List, [], ◌∷◌, length, length-append, ap}
 use Rattle.std.proofs.lemmas.List.Elements.{All-weaker}
 use Rattle.st_mailbox.specs.declared.messages.Message.{Message}
-use Rattle.st_image.specs.declared.items.Item.{Item}
-use Rattle.st_image.specs.declared.items.Item.TheVariants.{Edited, Created, Posted, Closed, Begun, Ran}
+use Rattle.st_image.specs.declared.history.Item.{Item}
+use Rattle.st_image.specs.declared.history.Item.TheVariants.{Edited, Created, Posted, Closed, Begun, Ran}
 use Rattle.st_image.specs.Replay.{next}
 use Rattle.st_image.specs.Delivery.{BeginsInOrder}
 use Rattle.st_image.specs.WorldInvariant.{IsWorldActor}

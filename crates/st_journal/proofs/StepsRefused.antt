@@ -11,8 +11,8 @@ use Rattle.st_classes.specs.Refusals.{first_of}
 use Rattle.st_turn.specs.declared.body.Body.{Body}
 use Rattle.st_turn.specs.Claims.{BeganAs, ClaimView, used}
 use Rattle.st_turn.specs.Surviving.{edits_since, touched}
-use Rattle.st_image.specs.declared.items.Item.{Item}
-use Rattle.st_image.specs.declared.items.Item.TheVariants.{Begun}
+use Rattle.st_image.specs.declared.history.Item.{Item}
+use Rattle.st_image.specs.declared.history.Item.TheVariants.{Begun}
 use Rattle.st_image.specs.Commits.{HasCheckedOut, IsUnchanged, RefusesCommit, Survives, after_checkout, body_at, commit_room, idle_at, steps_of, with_out}
 use Rattle.st_image.specs.Images.{ImageView, appended, no_room, too_many_steps, world}
 use Rattle.st_image.specs.Worlds.{World}

@@ -11,7 +11,7 @@ use Rattle.st_classes.specs.declared.edits.Edit.TheVariants.{Define, Install, Re
 use Rattle.st_classes.specs.EditLists.{AllSound, AreLawful}
 use Rattle.st_classes.specs.Names.{AreNames}
 use Rattle.st_wire.proofs.Lines.{value-line}
-use Rattle.st_image.specs.declared.items.Item.TheVariants.{Edited, Created, Posted, Closed, Begun, Ran}
+use Rattle.st_image.specs.declared.history.Item.TheVariants.{Edited, Created, Posted, Closed, Begun, Ran}
 use Rattle.st_image.specs.CompiledEdits.{AllCompiled}
 use Rattle.st_image.specs.Images.{ImageView, constants, world}
 use Rattle.st_image.specs.WorldInvariant.{IsLawful, IsWorld}

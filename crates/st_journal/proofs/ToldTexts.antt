@@ -6,8 +6,8 @@ use Rattle.st_classes.specs.declared.edits.Edit.TheVariants.{Define, Install, Re
 use Rattle.st_classes.specs.EditLists.{AreLawful}
 use Rattle.st_classes.specs.Names.{AreNames}
 use Rattle.st_classes.proofs.LawLists.{slice_get_here}
-use Rattle.st_image.specs.declared.items.Item.{Item}
-use Rattle.st_image.specs.declared.items.Item.TheVariants.{Edited, Created, Posted, Closed, Begun, Ran}
+use Rattle.st_image.specs.declared.history.Item.{Item}
+use Rattle.st_image.specs.declared.history.Item.TheVariants.{Edited, Created, Posted, Closed, Begun, Ran}
 use Rattle.st_image.specs.CompiledEdits.{AllCompiled}
 use Rattle.st_image.specs.Images.{constants, world}
 use Rattle.st_image.specs.Loading.{edit_text}

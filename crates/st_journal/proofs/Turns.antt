@@ -4,8 +4,8 @@ use Rattle.std.specs.Prelude.{if◌then◌else◌, ◌==◌}
 use Rattle.std.proofs.lemmas.Bool.Decides.{nat_tests}
 use Rattle.st_classes.specs.declared.values.ActorId.{ActorId}
 use Rattle.st_turn.specs.Claims.{BeganAs, ClaimView}
-use Rattle.st_image.specs.declared.items.Item.{Item}
-use Rattle.st_image.specs.declared.items.Item.TheVariants.{Begun, Ran}
+use Rattle.st_image.specs.declared.history.Item.{Item}
+use Rattle.st_image.specs.declared.history.Item.TheVariants.{Begun, Ran}
 use Rattle.st_image.specs.ClaimsOut.{one_less, one_more}
 use Rattle.st_image.specs.Commits.{ChecksOut, CountsOut, HasCheckedOut, HasCommitted, IsReleased, after_checkout, idle_at, items_of, out_at, steps_of, with_out}
 use Rattle.st_image.specs.Images.{ImageView, Standing, appended, world}

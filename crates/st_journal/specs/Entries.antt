@@ -3,8 +3,8 @@ use Rattle.std.specs.Prelude.{◌≡◌, ◌<◌, ℕ, false, List, [], ◌∷�
 use Rattle.st_classes.specs.declared.edits.Edit.{Edit}
 use Rattle.st_classes.specs.declared.edits.Edit.TheVariants as edit
 use Rattle.st_classes.specs.Names.{interned, is_name}
-use Rattle.st_image.specs.declared.items.Item.{Item}
-use Rattle.st_image.specs.declared.items.Item.TheVariants as item
+use Rattle.st_image.specs.declared.history.Item.{Item}
+use Rattle.st_image.specs.declared.history.Item.TheVariants as item
 use Rattle.st_image.specs.Checkpoints.{BeginsAnew}
 use Rattle.st_image.specs.Commits.{out_at}
 use Rattle.st_image.specs.CompiledEdits.{IsCompiledEdit}

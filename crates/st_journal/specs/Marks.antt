@@ -1,6 +1,6 @@
 -- What happened to an image, as a list of items and checkpoints.
 use Rattle.std.specs.Prelude.{List, [], ◌∷◌, Option, Some, option_and_then}
-use Rattle.st_image.specs.declared.items.Item.{Item}
+use Rattle.st_image.specs.declared.history.Item.{Item}
 use Rattle.st_image.specs.Parts.{rebase}
 use Rattle.st_image.specs.Replay.{next}
 use Rattle.st_image.specs.Worlds.{Constants, World}

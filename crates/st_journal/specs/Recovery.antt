@@ -1,7 +1,7 @@
 -- What entries lead to, if they tell what happened.
 use Rattle.std.specs.Prelude.{◌≡◌, ℕ, ◌+◌, List, [], ◌∷◌, ◌++◌, drop, map, take, Some}
 use Rattle.st_image.specs.declared.counts.Counts.{Counts}
-use Rattle.st_image.specs.declared.items.Item.{Item}
+use Rattle.st_image.specs.declared.history.Item.{Item}
 use Rattle.st_image.specs.Commits.{out_at}
 use Rattle.st_image.specs.CompiledEdits.{AllCompiled}
 use Rattle.st_image.specs.Images.{ImageView, counts_of, world}

@@ -4,7 +4,7 @@ use Rattle.std.specs.Str.{IsUtf8}
 use Rattle.st_classes.specs.declared.edits.Edit.{Edit}
 use Rattle.st_classes.specs.EditLists.{AllSound, Begins}
 use Rattle.st_classes.specs.Names.{AreNames}
-use Rattle.st_image.specs.declared.items.Item.{Item}
+use Rattle.st_image.specs.declared.history.Item.{Item}
 use Rattle.st_image.specs.CompiledEdits.{AllCompiled}
 use Rattle.st_image.specs.Images.{ImageView, world}
 use Rattle.st_image.specs.WorldInvariant.{IsLawful}

@@ -1,7 +1,7 @@
 //! Copies of items.
 ghost use Rattle.std.specs.Prelude.{◌≡◌, IfOk};
 
-use st_image::items::Item;
+use st_image::history::Item;
 use std::alloc::{AllocError, Global};
 
 /// A copy of an item. An edit is shared.

@@ -8,7 +8,7 @@ use st_classes::edits::Edit;
 use st_classes::names::Names;
 use st_classes::seq::Seq;
 use st_classes::values::Selector;
-use st_image::items::Item;
+use st_image::history::Item;
 use std::alloc::{AllocError, Global};
 
 /// A copy of a text.

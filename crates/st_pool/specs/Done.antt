@@ -5,8 +5,8 @@ use Rattle.st_classes.specs.declared.refusals.Refusal.{Refusal}
 use Rattle.st_classes.specs.declared.refusals.Refusal.TheVariants.{HistoryFull, NoMemory}
 use Rattle.st_mailbox.specs.declared.messages.Message.{Message}
 use Rattle.st_turn.specs.Claims.{ClaimView}
-use Rattle.st_image.specs.declared.items.Item.{Item}
-use Rattle.st_image.specs.declared.items.Item.TheVariants.{Posted}
+use Rattle.st_image.specs.declared.history.Item.{Item}
+use Rattle.st_image.specs.declared.history.Item.TheVariants.{Posted}
 use Rattle.st_image.specs.Images.{ImageView}
 use Rattle.st_image.specs.Commits.{ChecksOut, Settles}
 use Rattle.st_image.specs.GoingOn.{GoesOnIn}

@@ -100,11 +100,14 @@ impl<'a, K: Naming, M: Mailbox> Caller<'a, K, M> {
         pool.audit(share);
         let moves = pool.moves();
         let out = job.run(alloc, &mut pool, share);
+        let has_looker = pool.waiting.has_looker();
+        let has_moved = pool.moves() != moves;
         let wakes = pool.wakes_past(moves);
-        let has_news = pool.take_news();
+        let news = pool.take_news();
         drop(pool);
+        shared.tell_looker_if(has_looker && has_moved);
         shared.wake_if(wakes);
-        shared.notify_if(has_news);
+        shared.notify(news);
         out
     }
 

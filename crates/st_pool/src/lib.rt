@@ -23,6 +23,7 @@ pub mod receipts;
 pub mod settling;
 pub mod shared;
 pub mod shares;
+mod signals;
 pub mod totals;
 pub(crate) mod waiting;
 pub mod workers;

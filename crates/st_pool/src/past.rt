@@ -1,5 +1,5 @@
 //! The histories that checkpoints have emptied, for one who has not read them yet.
-use st_image::items::Item;
+use st_image::history::Item;
 use std::alloc::{AllocError, Global};
 
 /// How many histories are kept at most. Each has at most as many items as the image's settings allow.

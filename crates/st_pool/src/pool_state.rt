@@ -12,7 +12,7 @@ use crate::naming::Naming;
 use crate::past::Past;
 use crate::receipts::Receipt;
 use crate::shares::{CallerShare, WorkerShare, copied};
-use crate::waiting::Waiting;
+use crate::waiting::{News, Waiting};
 use st_calls::applying::{apply, checkpoint_into, intern};
 use st_calls::calls::{Answer, Call};
 use st_calls::holders::Holder;
@@ -20,8 +20,8 @@ use st_classes::refusals::{Limited, Refusal};
 use st_classes::seq::Seq;
 use st_classes::values::{ActorId, Selector, Values};
 use st_image::counts::MOST_COUNTED;
+use st_image::history::Item;
 use st_image::image::Image;
-use st_image::items::Item;
 use st_mailbox::mailboxes::Mailbox;
 use st_mailbox::messages::{Message, Sender};
 use std::alloc::Global;
@@ -316,8 +316,8 @@ impl<K: Naming, M: Mailbox> PoolState<K, M> {
         self.past.take()
     }
 
-    /// Whether callers that wait are to be told that a turn has ended, or the turns have been numbered anew.
-    pub(crate) fn take_news(&mut self) -> bool
+    /// Which callers that wait are to be told that a turn has ended, or the turns have been numbered anew.
+    pub(crate) fn take_news(&mut self) -> News
         ensures { self.new ≡ self.old }
     {
         self.waiting.take_news()

@@ -3,7 +3,7 @@ ghost use Rattle.std.specs.Prelude.{◌≡◌, ℕ, ◌+◌, ◌<◌, ◌≤◌,
 ghost use Rattle.std.specs.Option.{IfSome};
 ghost use Rattle.std.specs.List.{sum_by};
 ghost use Rattle.st_classes.specs.declared.refusals.Refusal.TheVariants as refusals;
-ghost use Rattle.st_image.specs.declared.items.Item.TheVariants.{Posted as PostedItem};
+ghost use Rattle.st_image.specs.declared.history.Item.TheVariants.{Posted as PostedItem};
 ghost use Rattle.st_image.specs.Counts.{posts_of, weigh};
 ghost use Rattle.st_image.specs.GoingOn.{GoesOnIn};
 ghost use Rattle.st_image.specs.Images.{ImageView};
@@ -21,8 +21,8 @@ use crate::shares::{CallerShare, WorkerShare};
 use crate::totals::Totals;
 use st_classes::refusals::Refusal;
 use st_classes::values::Value;
+use st_image::history::Item;
 use st_image::image::Image;
-use st_image::items::Item;
 use st_mailbox::mailboxes::Mailbox;
 use st_mailbox::messages::Message;
 

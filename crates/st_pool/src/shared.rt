@@ -11,6 +11,8 @@ use crate::holds::{Condition, Reading};
 use crate::known_prefix::Opened;
 use crate::naming::Naming;
 use crate::pool_state::PoolState;
+use crate::signals::Signal;
+use crate::waiting::News;
 use st_classes::refusals::Refusal;
 use st_image::image::Image;
 use st_mailbox::mailboxes::Mailbox;
@@ -32,12 +34,12 @@ const PAUSES: usize = 4;
 
 const LONG_PAUSES: usize = 16;
 
-/// How often a caller looks whether a turn has ended before it sleeps for that. Between two looks other threads may run. Most turns end
-/// sooner than a thread that sleeps would be woken.
+/// How often a caller looks whether a turn has ended before it sleeps for that. Between two looks other threads may run, and the caller
+/// waits at a long interval for the signal that one has ended. Most turns end sooner than a thread that sleeps would be woken.
 const LOOKS_FOR_END: u32 = 32;
 
-/// How often a worker that found nothing looks, at long intervals, whether there is something now before it sleeps. The next message of a
-/// client who waits for each reply comes sooner than a thread that sleeps would be woken.
+/// How often a worker that found nothing looks, at long intervals, whether there is something now before it sleeps; a signal says that
+/// something has moved. The next message of a client who waits for each reply comes sooner than a thread that sleeps would be woken.
 const LOOKS_FOR_WORK: u32 = 48;
 
 /// Lets some time pass.
@@ -57,6 +59,10 @@ pub struct Shared<K: Naming, M: Mailbox> {
     pub(crate) eased: Condvar,
     /// What callers sleep on that wait for the end of a turn.
     pub(crate) ended: Condvar,
+    /// What tells the worker that looks that something has moved.
+    moves: Signal,
+    /// What tells callers that look that a turn has ended.
+    ends: Signal,
 }
 
 impl<K: Naming, M: Mailbox> Shared<K, M> {
@@ -76,6 +82,8 @@ impl<K: Naming, M: Mailbox> Shared<K, M> {
             moved: Condvar::new(),
             eased: Condvar::new(),
             ended: Condvar::new(),
+            moves: Signal::new(),
+            ends: Signal::new(),
         }
     }
 
@@ -123,20 +131,30 @@ impl<K: Naming, M: Mailbox> Shared<K, M> {
         self.pool.lock(rt)
     }
 
-    /// Takes the lock if a condition holds at one of some looks.
+    /// Takes the lock if a condition holds, or else once it holds at one of some looks.
     fn look_for<R: Wait, C: Condition<K, M>>(
         &self,
         rt: &R,
         condition: &C,
     ) -> Option<MutexGuard<'_, PoolState<K, M>>> {
+        let mut ends = self.ends.count();
+        let mut first = self.enter(rt);
+        if condition.holds(&first) {
+            return Some(first);
+        }
+        first.waiting.begin_seek();
+        drop(first);
         for _ in 0..LOOKS_FOR_END {
-            let pool = self.enter(rt);
+            yield_now();
+            self.ends.pause_past(ends, LONG_PAUSES);
+            ends = self.ends.count();
+            let mut pool = self.enter(rt);
             if condition.holds(&pool) {
+                pool.waiting.end_seek();
                 return Some(pool);
             }
-            drop(pool);
-            yield_now();
         }
+        self.enter(rt).waiting.end_seek();
         None
     }
 
@@ -166,12 +184,14 @@ impl<K: Naming, M: Mailbox> Shared<K, M> {
     /// Looks some times whether something has moved since for which an actor is ready, or the workers are to end. The answer is none if so;
     /// else what was seen by then, beyond which a move wakes. One worker at a time looks.
     pub(crate) fn look_past<R: Wait>(&self, rt: &R, seen: u64) -> Option<u64> {
+        let mut told = self.moves.count();
         if !self.enter(rt).waiting.begin_look(seen) {
             return Some(seen);
         }
         let mut seen = seen;
         for _ in 0..LOOKS_FOR_WORK {
-            pause(LONG_PAUSES);
+            self.moves.pause_past(told, LONG_PAUSES);
+            told = self.moves.count();
             if let Some(mut pool) = self.pool.try_lock() {
                 if pool.has_work_past(seen) {
                     pool.waiting.end_look();
@@ -189,9 +209,19 @@ impl<K: Naming, M: Mailbox> Shared<K, M> {
     }
 
     /// A turn has ended, or the turns have been numbered anew, if so: the callers that wait look again.
-    pub(crate) fn notify_if(&self, has_news: bool) {
-        if has_news {
+    pub(crate) fn notify(&self, news: News) {
+        if news.is_told {
+            self.ends.tell();
+        }
+        if news.wakes {
             self.ended.notify_all();
+        }
+    }
+
+    /// Something has moved while a worker looks, if so.
+    pub(crate) fn tell_looker_if(&self, has_moved: bool) {
+        if has_moved {
+            self.moves.tell();
         }
     }
 

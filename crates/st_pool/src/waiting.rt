@@ -5,6 +5,15 @@
 //! wanting, each call of a caller is a move, since no clause says which of them gives some back. A caller waits for the end of a turn, or of
 //! all turns that are numbered from one base.
 
+/// Whom a thread tells, once it has let go of the lock, that something has happened which callers wait for.
+#[derive(Clone, Copy)]
+pub(crate) struct News {
+    /// Whether a caller waits, and something has happened.
+    pub(crate) is_told: bool,
+    /// Whether one of those sleeps.
+    pub(crate) wakes: bool,
+}
+
 /// How many workers and callers wait, and what has happened that they wait for.
 #[derive(Drop)]
 pub(crate) struct Waiting {
@@ -21,7 +30,9 @@ pub(crate) struct Waiting {
     is_stopped: bool,
     /// Whether a worker that found nothing looks before it sleeps, and no call has moved anything since it began.
     has_looker: bool,
-    /// How many callers wait for the end of a turn.
+    /// How many callers look whether a turn has ended, before they sleep for that.
+    seekers: u32,
+    /// How many callers sleep for the end of a turn.
     watchers: u32,
     /// Whether a turn has ended since they were told, or the turns have been numbered anew.
     has_news: bool,
@@ -38,6 +49,7 @@ impl Waiting {
             is_wanting: false,
             is_stopped: false,
             has_looker: false,
+            seekers: 0,
             watchers: 0,
             has_news: false,
         }
@@ -182,20 +194,30 @@ impl Waiting {
         self.resting = self.resting.wrapping_sub(1);
     }
 
-    /// A caller is about to wait for the end of a turn, and holds the lock until it does.
+    /// A caller begins to look whether a turn has ended.
+    pub(crate) fn begin_seek(&mut self) {
+        self.seekers = self.seekers.wrapping_add(1);
+    }
+
+    /// The caller that looked goes on, or is about to sleep.
+    pub(crate) fn end_seek(&mut self) {
+        self.seekers = self.seekers.wrapping_sub(1);
+    }
+
+    /// A caller is about to sleep for the end of a turn, and holds the lock until it does.
     pub(crate) fn begin_watch(&mut self) {
         self.watchers = self.watchers.wrapping_add(1);
     }
 
-    /// A caller that was about to wait, or waited, has the lock again.
+    /// A caller that was about to sleep, or slept, has the lock again.
     pub(crate) fn end_watch(&mut self) {
         self.watchers = self.watchers.wrapping_sub(1);
     }
 
-    /// Whether a caller waits.
+    /// Whether a caller waits for the end of a turn.
     #[inline]
     pub(crate) fn has_watchers(&self) -> bool {
-        self.watchers != 0
+        self.watchers != 0 || self.seekers != 0
     }
 
     /// Something has happened that callers wait for, if so.
@@ -204,11 +226,14 @@ impl Waiting {
         self.has_news = self.has_news || is_news;
     }
 
-    /// Whether callers that wait are to be told of something. They are told once.
+    /// Which callers that wait are to be told of something. They are told once.
     #[inline]
-    pub(crate) fn take_news(&mut self) -> bool {
+    pub(crate) fn take_news(&mut self) -> News {
         let is_told = self.has_news && self.has_watchers();
         self.has_news = false;
-        is_told
+        News {
+            is_told,
+            wakes: is_told && self.watchers != 0,
+        }
     }
 }

@@ -148,9 +148,9 @@ fn commit_and_claim<K: Naming, M: Mailbox, R: Wait>(
     let wants_help = pool.wants_help();
     let is_hurried = ran.long == 0 && (rests || outcome.goes_on);
     let wants_more = !is_hurried && pool.wants_more();
-    let has_news = pool.take_news();
+    let news = pool.take_news();
     drop(pool);
-    shared.notify_if(has_news);
+    shared.notify(news);
     claim_slots.let_go();
     for _ in 0..outcome.committed {
         if wants_help {

@@ -7,7 +7,7 @@ use st_classes::refusals::Refusal;
 use st_classes::seq::Seq;
 use st_classes::values::{ActorId, ClassId, Selector, Value, Values};
 use st_file::saving::save;
-use st_image::items::Item;
+use st_image::history::Item;
 use st_image::tallies::SiteStats;
 use st_pool::naming::Naming;
 use st_turn::body::Outcome;

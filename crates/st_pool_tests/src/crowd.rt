@@ -5,7 +5,7 @@ use crate::failing_session::{TALKING, talk_and_fail};
 use crate::plays::totals;
 use crate::pools::{Image, Stage};
 use crate::scenes::Scene;
-use st_image::items::Item;
+use st_image::history::Item;
 use st_mailbox::messages::{Message, Sender};
 use st_pool::naming::Naming;
 use st_pool::shares::CallerShare;

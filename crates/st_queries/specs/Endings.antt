@@ -5,7 +5,7 @@ use Rattle.st_classes.specs.declared.refusals.Refusal.{Refusal}
 use Rattle.st_turn.specs.declared.body.Outcome.{Outcome}
 use Rattle.st_image.specs.Failures.{Failure, failures_of}
 use Rattle.st_image.specs.Images.{ImageView}
-use Rattle.st_image.specs.Newest.{newest}
+use Rattle.st_image.specs.NewestResults.{newest}
 use Rattle.st_image.specs.Outcomes.{image_outcome}
 use Rattle.st_queries.specs.declared.endings.Ending.{Ending}
 use Rattle.st_queries.specs.declared.endings.Ending.TheVariants.{Failed, Known}

@@ -4,7 +4,7 @@ use Rattle.std.specs.List.{filter_map}
 use Rattle.serde_json.specs.Data.{Data, string, object, member, no_members}
 use Rattle.st_image.specs.Failures.{Failure, failures_of}
 use Rattle.st_image.specs.Images.{ImageView}
-use Rattle.st_image.specs.Newest.{newest}
+use Rattle.st_image.specs.NewestResults.{newest}
 use Rattle.st_wire.specs.Names.{fault_name}
 use Rattle.st_wire.specs.Replies.{whole}
 use Rattle.st_file.specs.ListJson.{each}

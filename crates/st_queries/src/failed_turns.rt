@@ -2,7 +2,7 @@
 ghost use Rattle.std.specs.Prelude.{◌≡◌, IfOk, option_and_then, slice_get};
 ghost use Rattle.serde_json.specs.View.{view};
 ghost use Rattle.st_image.specs.Failures.{failures_of};
-ghost use Rattle.st_image.specs.Newest.{newest};
+ghost use Rattle.st_image.specs.NewestResults.{newest};
 ghost use Rattle.st_queries.specs.FailedTurns.{failed_behind, failed_since as seen_since, failed_told, failed_turn as failed_turn_of, faults_told, if_behind, lost_until as lost_in, told_from as from_of};
 
 use crate::listing::{ToJson, each};

@@ -30,7 +30,7 @@ use Rattle.st_turn.specs.Steps.{Step, next as leads, ended, outer, act_of, act_o
 use Rattle.st_turn.specs.StepResults.{step_result, stop_result}
 use Rattle.st_turn.specs.WorkerSteps.{Row, Runs, limited}
 use Rattle.st_mailbox.specs.declared.messages.Message.{Message}
-use Rattle.st_image.specs.declared.items.Item.TheVariants.{Begun}
+use Rattle.st_image.specs.declared.history.Item.TheVariants.{Begun}
 use Rattle.st_image.specs.Worlds.{World, WorldActor, change, pending}
 use Rattle.st_image.specs.Replay.{next, next_message, with_begun}
 use Rattle.st_image.specs.Images.{ImageView, appended, constants, world}

@@ -1,7 +1,7 @@
 -- What a run took, from what it added to the history.
 use Rattle.std.specs.Prelude.{◌≡◌, ℕ, ◌+◌, ◌≤◌, ◌<◌, List, [], ◌∷◌, ◌++◌, All, length, sum}
-use Rattle.st_image.specs.declared.items.Item.{Item}
-use Rattle.st_image.specs.declared.items.Item.TheVariants.{Ran}
+use Rattle.st_image.specs.declared.history.Item.{Item}
+use Rattle.st_image.specs.declared.history.Item.TheVariants.{Ran}
 use Rattle.st_wire.specs.declared.replies.Reply.TheVariants as reply
 use Rattle.st_script.specs.Runners.{RunnerView, NoneReady}
 use Rattle.st_script.specs.CommandReplies.{Runs}

@@ -4,7 +4,7 @@ use crate::keepers::JournalWriter;
 use st_classes::names::Names;
 use st_classes::refusals::Refusal;
 use st_classes::version::Version;
-use st_image::items::Item;
+use st_image::history::Item;
 use st_journal::entries::Entry;
 use st_journal::lines::write_lines;
 use st_journal::telling::tell_since;

@@ -7,7 +7,7 @@ use st_classes::names::Names;
 use st_classes::refusals::Refusal;
 use st_classes::token::Token;
 use st_file::image_snapshots::ImageSnapshot;
-use st_image::items::Item;
+use st_image::history::Item;
 use st_journal::copying::copied_items;
 use st_pool::holds::Reading;
 use st_pool::naming::Naming;

@@ -11,8 +11,8 @@ use Rattle.st_classes.specs.Refusals.{Rule}
 use Rattle.st_compile.specs.NeededNames.{InternsFirst, needed_texts}
 use Rattle.st_compile.proofs.Interning.{first-grows, grown_by}
 use Rattle.st_turn.specs.Claims.{ClaimView}
-use Rattle.st_image.specs.declared.items.Item.{Item}
-use Rattle.st_image.specs.declared.items.Item.TheVariants.{Closed, Created, Edited, Posted}
+use Rattle.st_image.specs.declared.history.Item.{Item}
+use Rattle.st_image.specs.declared.history.Item.TheVariants.{Closed, Created, Edited, Posted}
 use Rattle.st_image.specs.declared.settings.Settings.{Settings}
 use Rattle.st_image.specs.Images.{ImageView, accepted_by, close_rules, create_rules, image_define_rules, image_post_rules, image_remove_rules, image_reparent_rules, world}
 use Rattle.st_image.specs.PostRules.{from_client}

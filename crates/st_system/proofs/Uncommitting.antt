@@ -7,8 +7,8 @@ use Rattle.std.proofs.lemmas.Bool.{and_parts}
 use Rattle.st_classes.specs.declared.values.ActorId.{ActorId}
 use Rattle.st_classes.specs.declared.refusals.Refusal.{Refusal}
 use Rattle.st_turn.specs.Claims.{ClaimView}
-use Rattle.st_image.specs.declared.items.Item.{Item}
-use Rattle.st_image.specs.declared.items.Item.TheVariants.{Begun}
+use Rattle.st_image.specs.declared.history.Item.{Item}
+use Rattle.st_image.specs.declared.history.Item.TheVariants.{Begun}
 use Rattle.st_image.specs.Images.{ImageView, appended, world}
 use Rattle.st_image.specs.Commits.{ChecksOut, idle_at, with_out}
 use Rattle.st_image.specs.WorldInvariant.{settings_of}

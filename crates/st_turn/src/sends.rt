@@ -18,7 +18,7 @@ use std::alloc::{AllocError, Global};
 use std::marker::Model;
 
 /// How many hints there are where the last sum of a site lies.
-const SEATS: usize = 512;
+const BUCKETS: usize = 512;
 
 /// How many of the last sums are looked at where a hint is of another site.
 const NEAR: usize = 64;
@@ -32,7 +32,7 @@ pub struct Sends {
     /// The sums, in the order in which their first sends came. If a site has several, the later ones have the later sends.
     sums: Vec<SiteSum>,
     /// A hint for each bucket: no sum of a site with this bucket lies behind that place.
-    lasts: [usize; SEATS],
+    lasts: [usize; BUCKETS],
     /// The sends themselves, for proofs.
     all: GhostList<Sent>,
 }
@@ -51,20 +51,20 @@ impl Model for Sends {
 
 /// The bucket of a site. The sites of one method have different ones, if it has no more than 512 places.
 #[inline(always)]
-fn seat_of(site: SiteId) -> usize
+fn bucket_of(site: SiteId) -> usize
     ensures bucket { result ≡ bucket site }
     ensures few { result < 512 }
 {
-    (site.method.0 as usize * 167 + site.place as usize) % SEATS
+    (site.method.0 as usize * 167 + site.place as usize) % BUCKETS
 }
 
 /// Where the last sum of a site lies, if the hint of its bucket says so.
 #[inline(always)]
-fn place_of(sums: &[SiteSum], lasts: &[usize; SEATS], site: SiteId) -> Option<usize>
+fn place_of(sums: &[SiteSum], lasts: &[usize; BUCKETS], site: SiteId) -> Option<usize>
     requires { AreLast lasts.now sums.now }
     ensures { IfSome result (IsLastOf site sums.now) }
 {
-    let place = lasts[seat_of(site)];
+    let place = lasts[bucket_of(site)];
     if place < sums.len() && site == sums[place].site {
         return Some(place);
     }
@@ -100,14 +100,14 @@ fn add_at(sums: &mut Vec<SiteSum>, place: usize, sent: Sent)
 }
 
 /// Makes a sum of a send. The answer is whether there is room for another one.
-fn add_sum(sums: &mut Vec<SiteSum>, lasts: &mut [usize; SEATS], sent: Sent) -> bool
+fn add_sum(sums: &mut Vec<SiteSum>, lasts: &mut [usize; BUCKETS], sent: Sent) -> bool
     requires room { vec_len sums.old < vec_capacity sums.old }
     requires lasts { AreLast lasts.old sums.old.items }
     ensures adds { AddsSend sent sums.old.items sums.new.items }
     ensures lasts { AreLast lasts.new sums.new.items }
     ensures room { IsTrue result → vec_len sums.new < vec_capacity sums.new }
 {
-    lasts[seat_of(sent.site)] = sums.len();
+    lasts[bucket_of(sent.site)] = sums.len();
     sums.push_reserved(SiteSum::of(sent));
     sums.len() < sums.capacity()
 }
@@ -119,7 +119,7 @@ impl Sends {
     {
         Sends {
             sums: Vec::new(alloc),
-            lasts: [0; SEATS],
+            lasts: [0; BUCKETS],
             all: GhostList::new(),
         }
     }

@@ -38,7 +38,7 @@ A go | n | n := 0. [n < 9] whileTrue: [n := n + 1. s := n. self a. s := true. se
         8,
         "57 44 8",
     ),
-    // Two sites with one seat, sent to in turn: place 2 of a method, and place 13 of the one that is installed three edits later.
+    // Two sites in one bucket, sent to in turn: place 2 of a method, and place 13 of the one that is installed three edits later.
     (
         r"A a ^1 + 2
 A c ^1

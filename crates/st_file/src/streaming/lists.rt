@@ -9,7 +9,7 @@ use json::{Reader, Token};
 use serde_json::Value;
 use st_classes::refusals::Refusal;
 use st_classes::seq::Seq;
-use st_image::letting_go::let_go;
+use st_image::dropping::let_go;
 use st_wire::misses::Miss;
 use st_wire::values::read_value;
 use std::alloc::Global;

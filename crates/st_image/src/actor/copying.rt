@@ -1,7 +1,7 @@
 //! Actors as plain data: made of their parts, and copied as such.
 ghost use Rattle.std.specs.Prelude.{◌≡◌, ◌≤◌, [], length, true, IfOk, OnOk};
 ghost use Rattle.st_image.specs.ActorViews.{actor_view, last_kept, view_anew, view_part};
-ghost use Rattle.st_image.specs.Newest.{kept_in};
+ghost use Rattle.st_image.specs.NewestResults.{kept_in};
 ghost use Rattle.st_image.specs.Parts.{actor_of};
 
 use crate::actor::Actor;

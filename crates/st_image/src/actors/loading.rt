@@ -7,7 +7,7 @@ ghost use Rattle.st_image.specs.declared.actor_part.ActorPart.{ActorPart as Part
 use crate::actor::Actor;
 use crate::actor_part::ActorPart;
 use crate::actors::{Actors, make_room};
-use crate::letting_go::let_go;
+use crate::dropping::let_go;
 use st_mailbox::mailboxes::Mailbox;
 use std::alloc::{AllocError, Global};
 

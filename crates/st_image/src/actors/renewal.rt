@@ -1,7 +1,7 @@
 //! How actors begin anew.
 ghost use Rattle.std.specs.Prelude.{◌≡◌, map, IfOk};
 ghost use Rattle.st_image.specs.ActorViews.{last_kept, view_anew};
-ghost use Rattle.st_image.specs.Newest.{kept_in};
+ghost use Rattle.st_image.specs.NewestResults.{kept_in};
 
 use crate::actor::Actor;
 use crate::actors::Actors;

@@ -5,7 +5,7 @@ use crate::base::Base;
 use crate::changes::Changes;
 use crate::clients::Clients;
 use crate::counts::Counts;
-use crate::earlier::Earlier;
+use crate::earlier_counts::Earlier;
 use crate::failures::Failures;
 use crate::image::Image;
 use crate::settings::Settings;

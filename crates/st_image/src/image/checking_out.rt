@@ -2,8 +2,8 @@
 ghost use Rattle.std.specs.Prelude.{◌≡◌, [], IfOk};
 ghost use Rattle.st_turn.specs.BodyFits.{FitsSome};
 
+use crate::history::Item;
 use crate::image::Image;
-use crate::items::Item;
 use crate::recycled::Recycled;
 use st_classes::refusals::Refusal;
 use st_classes::token::Token;

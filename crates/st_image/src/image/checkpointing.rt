@@ -2,10 +2,10 @@
 use crate::base::Base;
 use crate::changes::Changes;
 use crate::counts::Counts;
-use crate::earlier::Earlier;
+use crate::earlier_counts::Earlier;
 use crate::failures::Failures;
+use crate::history::Item;
 use crate::image::Image;
-use crate::items::Item;
 use crate::tallies::Tallies;
 use st_classes::values::ActorId;
 use st_mailbox::mailboxes::Mailbox;

@@ -1,6 +1,6 @@
 //! Image::close: a mailbox accepts no more messages.
+use crate::history::Item;
 use crate::image::Image;
-use crate::items::Item;
 use st_classes::refusals::Refusal;
 use st_classes::values::ActorId;
 use st_mailbox::mailboxes::Mailbox;

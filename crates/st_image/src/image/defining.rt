@@ -1,6 +1,6 @@
 //! Image::define, and how an edit of any kind is made.
+use crate::history::Item;
 use crate::image::Image;
-use crate::items::Item;
 use st_classes::edits::{Edit, SharedEdit};
 use st_classes::limits::RUN_EDITS;
 use st_classes::refusals::{Limited, Refusal};

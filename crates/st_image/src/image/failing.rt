@@ -7,7 +7,7 @@ impl<M: Mailbox> Image<M> {
     ghost use Rattle.std.specs.Prelude.{◌≡◌, length, slice_get};
     ghost use Rattle.std.specs.Option.{option_copied};
     ghost use Rattle.st_image.specs.Failures.{failures_of};
-    ghost use Rattle.st_image.specs.Newest.{newest};
+    ghost use Rattle.st_image.specs.NewestResults.{newest};
 
     /// How many turns have ended with a fault since the image was new or loaded, or since its last checkpoint.
     pub fn failed_turns(&self) -> u64

@@ -1,6 +1,6 @@
 //! Image::install: read, compile and install a method.
+use crate::dropping::let_go;
 use crate::image::Image;
-use crate::letting_go::let_go;
 use st_classes::edits::Edit;
 use st_classes::kernel::kernel_at;
 use st_classes::methods::Method;

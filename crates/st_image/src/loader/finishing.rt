@@ -6,9 +6,9 @@ ghost use Rattle.st_image.specs.Loaded.{AreBaseActors, AreBaseSenders, Finishes}
 
 use crate::actor_part::ActorPart;
 use crate::counts::Counts;
+use crate::dropping::let_go;
 use crate::fitting::actors_fit;
 use crate::image::Image;
-use crate::letting_go::let_go;
 use crate::loader::Loader;
 use crate::sequence_numbers::{in_sending_order, senders_are_there};
 use st_classes::limits::ACTORS;

@@ -53,7 +53,7 @@ impl Claim {
 
     /// Makes a second copy of the body to which the steps lead, if there is memory. A commit leaves it to the image, whose next claim of
     /// the actor begins with it, so that no copy is made under a lock. It takes the memory of a spare body, if there is one.
-    pub fn make_twin(&mut self, alloc: Global, spare: Option<Body>)
+    pub fn make_next_copy(&mut self, alloc: Global, spare: Option<Body>)
         ensures { self.new ≡ self.old }
     {
         let parts = &mut *self.parts;

@@ -1,6 +1,6 @@
 use Rattle.std.proofs.Common.{rules, arith, ◌≡◌, ◌<◌, ◌+◌, ◌++◌, ◌∷◌, [], ◌∙◌, ap, length, sym, take}
 use Rattle.std.proofs.lemmas.List.{take_more}
-use Rattle.st_image.specs.declared.items.Item.{Item}
+use Rattle.st_image.specs.declared.history.Item.{Item}
 use Rattle.st_image.specs.Counts.{posts_of, weigh}
 use Rattle.st_image.proofs.CountingItems.{weigh_append}
 use Rattle.st_pool.proofs.settling.posts_in.Goals as goal

@@ -1,7 +1,7 @@
 use Rattle.std.proofs.Common.{◌∙◌, ap, sym}
 use Rattle.std.specs.Option.{option_copied}
 use Rattle.st_image.specs.Failures.{failures_of}
-use Rattle.st_image.specs.Newest.{newest}
+use Rattle.st_image.specs.NewestResults.{newest}
 use Rattle.st_queries.specs.Endings.{failure_of as failure_in, is_of}
 use Rattle.st_queries.proofs.KeptLoops.{found_here, found_not, found_past}
 use Rattle.st_queries.proofs.endings.failure_of.Goals as goal

@@ -1,7 +1,7 @@
 use Rattle.std.proofs.Common.{◌≡◌, drop}
 use Rattle.std.specs.List.{find}
 use Rattle.st_image.specs.Failures.{failures_of}
-use Rattle.st_image.specs.Newest.{newest}
+use Rattle.st_image.specs.NewestResults.{newest}
 use Rattle.st_queries.specs.Endings.{failure_of, is_of}
 use Rattle.st_queries.proofs.endings.failure_of.Given as goal
 

@@ -1,7 +1,7 @@
 use Rattle.std.proofs.Common.{◌+◌, ◌++◌, ◌∙◌, sym, ap, arith, drop, Vec, Global}
 use Rattle.std.specs.List.{filter_map}
 use Rattle.st_image.specs.Failures.{failures_of}
-use Rattle.st_image.specs.Newest.{newest}
+use Rattle.st_image.specs.NewestResults.{newest}
 use Rattle.st_queries.specs.FailedTurns.{failed_behind, if_behind}
 use Rattle.st_queries.specs.declared.failed_turns.FailedTurn.{FailedTurn}
 use Rattle.st_queries.proofs.KeptLoops.{few_newest, given_all, given_more, given_none}

@@ -1,6 +1,6 @@
 use Rattle.std.proofs.Common.{◌≡◌, map, take}
 use Rattle.st_image.specs.ActorViews.{last_kept}
-use Rattle.st_image.specs.Newest.{kept_in}
+use Rattle.st_image.specs.NewestResults.{kept_in}
 use Rattle.st_image.proofs.actors.Actors.last_results.Given as goal
 
 abbrev pub invariant-loop-actor : goal.invariant-loop-actor

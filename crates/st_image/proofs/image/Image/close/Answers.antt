@@ -1,7 +1,7 @@
 use Rattle.std.proofs.Common.{arith, ◌≡◌, ◌++◌, [], ◌∷◌, None, refl, sym, subst, slice_get}
 use Rattle.std.proofs.lemmas.Grind.{common_steps}
 use Rattle.st_classes.specs.Refusals.{first_of}
-use Rattle.st_image.specs.declared.items.Item.TheVariants.{Closed}
+use Rattle.st_image.specs.declared.history.Item.TheVariants.{Closed}
 use Rattle.st_image.specs.Images.{ImageView, close_rules, world, world_of}
 use Rattle.st_image.specs.ActResults.{constants_of}
 use Rattle.st_image.proofs.ClientNumbers.{kept_other}

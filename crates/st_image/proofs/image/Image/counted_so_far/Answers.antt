@@ -3,7 +3,7 @@ use Rattle.st_image.specs.Worlds.{World}
 use Rattle.st_image.specs.Counts.{ran_of, weigh}
 use Rattle.st_image.specs.declared.counts.Counts.{Counts}
 use Rattle.st_image.specs.Commits.{changed_at}
-use Rattle.st_image.specs.Earlier.{Earlier}
+use Rattle.st_image.specs.EarlierCounts.{Earlier}
 use Rattle.st_image.specs.Images.{ImageView, counts_of, world_of}
 use Rattle.st_image.specs.Changes.{change_count, changes_in}
 use Rattle.st_image.specs.ActResults.{constants_of}

@@ -2,7 +2,7 @@ use Rattle.std.proofs.Common.{refl, arith, ◌≡◌, ℕ, ◌++◌, [], ◌∷�
 use Rattle.std.proofs.lemmas.Grind.{common_steps}
 use Rattle.st_classes.specs.Refusals.{first_of}
 use Rattle.st_turn.specs.declared.body.Body.{Body}
-use Rattle.st_image.specs.declared.items.Item.TheVariants.{Created}
+use Rattle.st_image.specs.declared.history.Item.TheVariants.{Created}
 use Rattle.st_classes.specs.declared.values.ActorId.{ActorId}
 use Rattle.st_image.specs.ActResults.{constants_of}
 use Rattle.st_image.proofs.Showing.{count_is}

@@ -5,7 +5,7 @@ use Rattle.st_classes.specs.declared.edits.Edit.{Edit}
 use Rattle.st_classes.specs.Refusals.{first_of}
 use Rattle.st_classes.specs.EditRules.{edit_rules}
 use Rattle.st_classes.specs.MethodSuits.{edit_suits}
-use Rattle.st_image.specs.declared.items.Item.TheVariants.{Edited}
+use Rattle.st_image.specs.declared.history.Item.TheVariants.{Edited}
 use Rattle.st_image.specs.Images.{ImageView, run_rules, world, world_of}
 use Rattle.st_image.specs.CompiledEdits.{AllCompiled, IsCompiledEdit}
 use Rattle.st_image.proofs.CompiledEdits.{all_with}

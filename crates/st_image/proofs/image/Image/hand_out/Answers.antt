@@ -7,8 +7,8 @@ use Rattle.st_turn.specs.declared.body.Body.{Body}
 use Rattle.st_turn.specs.Idle.{is_idle}
 use Rattle.st_turn.specs.BodyFits.{FitsSome}
 use Rattle.st_image.specs.declared.image.Image.TheInside.{Inside}
-use Rattle.st_image.specs.declared.items.Item.{Item}
-use Rattle.st_image.specs.declared.items.Item.TheVariants.{Begun}
+use Rattle.st_image.specs.declared.history.Item.{Item}
+use Rattle.st_image.specs.declared.history.Item.TheVariants.{Begun}
 use Rattle.st_image.specs.Worlds.{change_at}
 use Rattle.st_image.specs.Images.{ImageView, Standing, world, world_of}
 use Rattle.st_image.specs.ActorViews.{ActorsView, view_checked_out}

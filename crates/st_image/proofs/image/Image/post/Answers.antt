@@ -2,7 +2,7 @@ use Rattle.std.proofs.Common.{ℕ, length, slice_get, ◌<◌, ◌≤◌, ◌+�
 use Rattle.std.proofs.lemmas.Grind.{common_steps}
 use Rattle.st_classes.specs.Refusals.{first_of}
 use Rattle.st_mailbox.specs.declared.messages.Message.{Message}
-use Rattle.st_image.specs.declared.items.Item.TheVariants.{Posted}
+use Rattle.st_image.specs.declared.history.Item.TheVariants.{Posted}
 use Rattle.st_image.specs.PostRules.{from_client, post_rules}
 use Rattle.st_image.specs.ActorViews.{ActorView}
 use Rattle.st_image.specs.ActResults.{constants_of}

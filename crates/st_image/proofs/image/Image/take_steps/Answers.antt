@@ -24,8 +24,8 @@ use Rattle.st_image.specs.Commits.{CommitAllowed, HasCommitted, act_site}
 use Rattle.st_turn.specs.Tallies.{after_sends, sends_of}
 use Rattle.st_image.specs.Tallies.{HasPlaces, SameTallies, Tallied, after_act_at, tally_at}
 use Rattle.st_turn.specs.declared.tally.Tally.{Tally}
-use Rattle.st_image.specs.declared.items.Item.{Item}
-use Rattle.st_image.specs.declared.items.Item.TheVariants.{Ran}
+use Rattle.st_image.specs.declared.history.Item.{Item}
+use Rattle.st_image.specs.declared.history.Item.TheVariants.{Ran}
 use Rattle.st_image.proofs.Posting.{seen, standing_of}
 use Rattle.st_image.proofs.Showing.{kept_at}
 use Rattle.st_image.proofs.Acts.{kept_is, out_same, some_kept}

@@ -1,5 +1,5 @@
 use Rattle.std.proofs.Common.{refl}
-use Rattle.st_image.specs.declared.items.Item.TheVariants as item
+use Rattle.st_image.specs.declared.history.Item.TheVariants as item
 use Rattle.st_journal.proofs.Replayed.{does_alone}
 use Rattle.st_journal.proofs.redoing.actors.create.Goals as goal
 

@@ -2,7 +2,7 @@ use Rattle.std.proofs.Common.{◌≡◌, ◌∙◌, ℕ, ap, sym}
 use Rattle.st_mailbox.specs.declared.messages.Message.{Message}
 use Rattle.st_mailbox.specs.declared.messages.Sender.{Sender}
 use Rattle.st_mailbox.specs.declared.messages.Sender.TheVariants.{Client}
-use Rattle.st_image.specs.declared.items.Item.TheVariants as item
+use Rattle.st_image.specs.declared.history.Item.TheVariants as item
 use Rattle.st_image.specs.PostRules.{from_client}
 use Rattle.st_journal.specs.declared.entries.Entry.TheVariants as entry
 use Rattle.st_journal.proofs.Replayed.{does_alone}

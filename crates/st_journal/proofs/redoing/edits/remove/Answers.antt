@@ -1,6 +1,6 @@
 use Rattle.std.proofs.Common.{refl}
 use Rattle.st_classes.specs.declared.edits.Edit.TheVariants.{Remove}
-use Rattle.st_image.specs.declared.items.Item.TheVariants as item
+use Rattle.st_image.specs.declared.history.Item.TheVariants as item
 use Rattle.st_journal.proofs.Replayed.{does_alone}
 use Rattle.st_journal.proofs.redoing.edits.remove.Goals as goal
 

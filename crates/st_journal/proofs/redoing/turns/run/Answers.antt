@@ -2,7 +2,7 @@ use Rattle.std.proofs.Common.{◌∙◌, refl, sym}
 use Rattle.st_turn.proofs.ClaimBeginnings.{runs_began}
 use Rattle.st_image.proofs.Following.{begins_by, checked_out_edits, kept_claim, kept_of_claim}
 use Rattle.st_image.specs.Images.{world}
-use Rattle.st_image.specs.declared.items.Item.TheVariants as item
+use Rattle.st_image.specs.declared.history.Item.TheVariants as item
 use Rattle.st_journal.proofs.Replayed.{does_beside}
 use Rattle.st_journal.proofs.StepsRefused.{steps_refused}
 use Rattle.st_journal.proofs.Turns.{ran_alone, ran_beside, ran_fits}

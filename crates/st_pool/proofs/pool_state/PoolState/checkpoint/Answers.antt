@@ -1,5 +1,5 @@
 use Rattle.std.proofs.Common.{Ok, Err, ap, length, subst, sym, ◌+◌, ◌∙◌, ◌≡◌}
-use Rattle.st_image.specs.declared.items.Item.{Item}
+use Rattle.st_image.specs.declared.history.Item.{Item}
 use Rattle.std.specs.Prelude.{List, ◌≤◌}
 use Rattle.std.proofs.Common.{arith}
 use Rattle.st_image.specs.Counts.{most_counted}

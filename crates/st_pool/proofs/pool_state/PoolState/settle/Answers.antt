@@ -1,6 +1,6 @@
 use Rattle.std.proofs.Common.{rules, arith, ◌≡◌, ◌∙◌, ◌-◌, ◌≤◌, ℕ, List, All, ap, sym, subst, refl, inr, IsTrue}
 use Rattle.std.specs.List.{sum_by}
-use Rattle.st_image.specs.declared.items.Item.{Item}
+use Rattle.st_image.specs.declared.history.Item.{Item}
 use Rattle.st_image.specs.Counts.{posts_of, weigh}
 use Rattle.st_pool.specs.Done.{Done, PoolView, StandsIn}
 use Rattle.st_pool.specs.Holds.{IsRun}

@@ -1,7 +1,7 @@
 //! What was counted in an image before its base.
 ghost use Rattle.std.specs.Prelude.{◌≡◌, ◌+◌, ◌<◌, ◌≤◌, ◌^◌, ℕ, length, IfOk};
 ghost use Rattle.st_image.specs.Changes.{change_count};
-ghost use Rattle.st_image.specs.Earlier.{counted_earlier};
+ghost use Rattle.st_image.specs.EarlierCounts.{counted_earlier};
 
 use crate::changes::Changes;
 use crate::counts::Counts;
@@ -19,7 +19,7 @@ pub(crate) struct Earlier {
 }
 
 impl Model for Earlier {
-    ghost use Rattle.st_image.specs.Earlier.{Earlier as EarlierOf};
+    ghost use Rattle.st_image.specs.EarlierCounts.{Earlier as EarlierOf};
 
     ghost Value = { EarlierOf };
 

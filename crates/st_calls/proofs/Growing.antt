@@ -18,7 +18,7 @@ use Rattle.st_image.specs.declared.history.Item.TheVariants.{Begun, Closed, Crea
 use Rattle.st_image.specs.Images.{ImageView, accepted_by, appended, close_rules, create_rules, image_define_rules, image_post_rules, image_remove_rules, image_reparent_rules, world, counts_of}
 use Rattle.st_image.specs.Calls.{Adds, Closes, Creates, Defines, InstallsIn, Posts, Removes, Reparents}
 use Rattle.st_image.specs.declared.counts.Counts.{Counts}
-use Rattle.st_image.specs.EarlierCounts.{Earlier}
+use Rattle.st_image.specs.EarlierCounts.{EarlierCounts}
 use Rattle.st_image.specs.Worlds.{World}
 use Rattle.st_image.specs.Checkpoints.{MakesCheckpoint}
 use Rattle.st_image.specs.RanTargets.{edits_among}
@@ -42,8 +42,8 @@ by_items i j items posts edits steps li lj base history earlier p e s =
     let more : (f : Item → ℕ) → weigh f j.history ≡ weigh f i.history + weigh f items = λ f. ap (weigh f) history ∙ weigh_append f i.history items in
     let longer : (world j).edits ≡ (world i).edits ++ edits_among items = edits_go_on i j li lj (record { base = base; items = items; history = history }) in
     let long : length (world j).edits ≡ length ((world i).edits ++ edits_among items) = ap (λ (es : List Edit). length es) longer in
-    let were : j.standing.earlier.posts ≡ i.standing.earlier.posts = ap (λ (x : Earlier). x.posts) earlier in
-    let took : j.standing.earlier.steps ≡ i.standing.earlier.steps = ap (λ (x : Earlier). x.steps) earlier in
+    let were : j.standing.earlier.posts ≡ i.standing.earlier.posts = ap (λ (x : EarlierCounts). x.posts) earlier in
+    let took : j.standing.earlier.steps ≡ i.standing.earlier.steps = ap (λ (x : EarlierCounts). x.steps) earlier in
     record {
       more_posts = omega (arith, were, more posts_of, p);
       more_edits = omega (arith, long, length-append (world i).edits (edits_among items), edits_counted items, e);

@@ -20,7 +20,7 @@ use Rattle.st_image.specs.ActResults.{constants_of}
 use Rattle.st_image.specs.ImageInvariant.{IsImage}
 use Rattle.st_image.specs.Parts.{FitsMailbox, actor_of, result_of, world_of_parts}
 use Rattle.st_image.specs.ClaimsOut.{put_first, trimmed}
-use Rattle.st_image.specs.EarlierCounts.{Earlier, counted_earlier}
+use Rattle.st_image.specs.EarlierCounts.{EarlierCounts, counted_earlier}
 use Rattle.st_image.specs.declared.counts.Counts.{Counts}
 use Rattle.st_image.specs.declared.history.Item.{Item}
 use Rattle.st_turn.specs.declared.tally.Tally.{Tally}
@@ -126,5 +126,5 @@ none_out (suc n) = ap (put_first 0) (none_out n)
 
 -- ---- what callers see
 
-pub loaded_by : (names : List (List ℕ)) (edits : List Edit) (parts : List ActorPart) (clients : List (ℕ × ℕ)) (base : World) (h : List Item) (out : List ℕ) (rows : List (List Tally)) (earlier : Earlier) (counts : Counts) → base ≡ world_of_parts edits parts clients → h ≡ [] → trimmed out ≡ [] → rows ≡ [] → earlier ≡ counted_earlier counts → seen base names h default (standing_of earlier 0 out rows) ≡ loaded_image names edits parts clients counts
+pub loaded_by : (names : List (List ℕ)) (edits : List Edit) (parts : List ActorPart) (clients : List (ℕ × ℕ)) (base : World) (h : List Item) (out : List ℕ) (rows : List (List Tally)) (earlier : EarlierCounts) (counts : Counts) → base ≡ world_of_parts edits parts clients → h ≡ [] → trimmed out ≡ [] → rows ≡ [] → earlier ≡ counted_earlier counts → seen base names h default (standing_of earlier 0 out rows) ≡ loaded_image names edits parts clients counts
 loaded_by names edits parts clients base h out rows earlier counts b e o r f = rw (b, e, o, r, f) refl

@@ -23,7 +23,7 @@ use Rattle.st_turn.specs.declared.tally.Tally.{Tally}
 use Rattle.st_image.specs.ClaimsOut.{one_more}
 use Rattle.st_turn.specs.Claims.{ClaimView}
 use Rattle.st_image.specs.Changes.{change_count, changes_in}
-use Rattle.st_image.specs.EarlierCounts.{Earlier}
+use Rattle.st_image.specs.EarlierCounts.{EarlierCounts}
 use Rattle.st_image.specs.Commits.{HasCheckedOut, after_checkout, checkout_rules, idle_at, new_claim, with_out}
 use Rattle.st_image.proofs.Lists.{off, set_at_same}
 use Rattle.st_image.proofs.Changing.{change_here, get-change}
@@ -131,7 +131,7 @@ checked_by i a true e = rw e refl
 checked_by i a false e = rw e (ap (λ (x : List Item). let b : ImageView = record i { history = x; standing = record i.standing { next_from = a.0 + 1 } } in b) (sym (append-nil i.history)))
 
 -- what callers see of a checkout
-pub checked : (base : World) (names : List (List ℕ)) (edits : List Edit) (actors : List ActorView) (h : List Item) (made : ℕ) (s : Settings) (earlier : Earlier) (n : ℕ) (out : List ℕ) (rows : List (List Tally)) (a : ActorId) (k : ActorView) (t : Bool) (c : ClaimView) (stamp : ℕ)
+pub checked : (base : World) (names : List (List ℕ)) (edits : List Edit) (actors : List ActorView) (h : List Item) (made : ℕ) (s : Settings) (earlier : EarlierCounts) (n : ℕ) (out : List ℕ) (rows : List (List Tally)) (a : ActorId) (k : ActorView) (t : Bool) (c : ClaimView) (stamp : ℕ)
     → IsImage base names edits actors h made s → slice_get actors a.0 ≡ Some k → a.0 < length out → is_idle k.body.phase ≡ t
     → IsOut base names edits (change_at view_checked_out a.0 actors) (h ++ begun_items t a) made s a (view_checked_out k).body
     → c ≡ new_claim edits a (view_checked_out k).body stamp → stamp ≡ change_count earlier.changes a.0 + changes_in (h ++ begun_items t a) a.0

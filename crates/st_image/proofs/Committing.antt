@@ -12,7 +12,7 @@ use Rattle.st_turn.specs.declared.body.Phase.TheVariants.{Fresh, Start, Frames, 
 use Rattle.st_turn.specs.Steps.{Asked, asked, is_outer, next_site_in, own_steps, step}
 use Rattle.st_turn.specs.Idle.{is_idle}
 use Rattle.st_turn.specs.Claims.{ClaimView, IsSound, own_asked, sites_asked}
-use Rattle.st_image.specs.EarlierCounts.{Earlier}
+use Rattle.st_image.specs.EarlierCounts.{EarlierCounts}
 use Rattle.st_image.specs.Worlds.{Constants, World, WorldActor, change, change_at}
 use Rattle.st_image.specs.Replay.{after_step, with_body}
 use Rattle.st_image.specs.Counts.{most_counted}
@@ -315,7 +315,7 @@ pub items_none : (d : ClaimView) → steps_of d ≡ 0 → items_of d ≡ []
 items_none d e = ap (λ (x : ℕ). cond (x == 0) [] (Ran d.actor (steps_of d) ∷ [])) e
 
 -- what callers see of a commit of no steps
-pub committed_none : (base : World) (names : List (List ℕ)) (h : List Item) (s : Settings) (earlier : Earlier) (n : ℕ) (old new : List ℕ) (rows : List (List Tally)) (d : ClaimView)
+pub committed_none : (base : World) (names : List (List ℕ)) (h : List Item) (s : Settings) (earlier : EarlierCounts) (n : ℕ) (old new : List ℕ) (rows : List (List Tally)) (d : ClaimView)
     → CommitAllowed (seen base names h s (standing_of earlier n old rows)) d → IsSound d.actor d.edits d.before d.after d.steps d.sends → steps_of d ≡ 0 → new ≡ change_at one_less d.actor.0 old
     → HasCommitted (seen base names h s (standing_of earlier n old rows)) d 0 (seen base names h s (standing_of earlier n new rows))
 committed_none base names h s earlier n old new rows d allowed sound e put =

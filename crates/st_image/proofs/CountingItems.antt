@@ -6,7 +6,7 @@ use Rattle.st_image.specs.declared.history.Item.{Item}
 use Rattle.st_image.specs.declared.history.Item.TheVariants.{Posted, Ran}
 use Rattle.st_image.specs.declared.counts.Counts.{Counts}
 use Rattle.st_image.specs.Counts.{CountsItems, most_counted, posts_of, ran_of, weigh}
-use Rattle.st_image.specs.EarlierCounts.{Earlier}
+use Rattle.st_image.specs.EarlierCounts.{EarlierCounts}
 
 pub weigh_append : (f : Item → ℕ) (xs ys : List Item) → weigh f (xs ++ ys) ≡ weigh f xs + weigh f ys
 weigh_append f [] ys = omega arith
@@ -16,7 +16,7 @@ counted_by : (p q s t : ℕ) → p ≡ q → s ≡ t → (let c : Counts = recor
 counted_by p q s t e f = ap₂ (λ (x y : ℕ). let c : Counts = record { posts = x; steps = y } in c) e f
 
 -- an item with a post or not, and some steps
-counts_one : (c d : Counts) (e : Earlier) (h : List Item) (i : Item) → d.posts ≡ c.posts + posts_of i → d.steps ≡ c.steps + ran_of i → e.posts + weigh posts_of h + posts_of i ≤ most_counted → e.steps + weigh ran_of h + ran_of i ≤ most_counted → CountsItems c e h → CountsItems d e (h ++ i ∷ [])
+counts_one : (c d : Counts) (e : EarlierCounts) (h : List Item) (i : Item) → d.posts ≡ c.posts + posts_of i → d.steps ≡ c.steps + ran_of i → e.posts + weigh posts_of h + posts_of i ≤ most_counted → e.steps + weigh ran_of h + ran_of i ≤ most_counted → CountsItems c e h → CountsItems d e (h ++ i ∷ [])
 counts_one c d e h i posts steps some few k =
     let p : weigh posts_of (h ++ i ∷ []) ≡ weigh posts_of h + posts_of i = omega (arith, weigh_append posts_of h (i ∷ [])) in
     let s : weigh ran_of (h ++ i ∷ []) ≡ weigh ran_of h + ran_of i = omega (arith, weigh_append ran_of h (i ∷ [])) in
@@ -27,13 +27,13 @@ counts_one c d e h i posts steps some few k =
     }
 
 -- an item that is no post and has no steps
-pub items_other : (c : Counts) (e : Earlier) (h : List Item) (i : Item) → posts_of i ≡ 0 → ran_of i ≡ 0 → CountsItems c e h → CountsItems c e (h ++ i ∷ [])
+pub items_other : (c : Counts) (e : EarlierCounts) (h : List Item) (i : Item) → posts_of i ≡ 0 → ran_of i ≡ 0 → CountsItems c e h → CountsItems c e (h ++ i ∷ [])
 items_other c e h i posts steps k = counts_one c c e h i (omega (arith, posts)) (omega (arith, steps)) (omega (arith, posts, k.few_posts)) (omega (arith, steps, k.few_steps)) k
 
 -- a post
-pub items_posted : (c : Counts) (e : Earlier) (h : List Item) (a : ActorId) (m : Message) → e.posts + weigh posts_of h + 1 ≤ most_counted → CountsItems c e h → CountsItems (record c { posts = c.posts + 1 }) e (h ++ Posted a m ∷ [])
+pub items_posted : (c : Counts) (e : EarlierCounts) (h : List Item) (a : ActorId) (m : Message) → e.posts + weigh posts_of h + 1 ≤ most_counted → CountsItems c e h → CountsItems (record c { posts = c.posts + 1 }) e (h ++ Posted a m ∷ [])
 items_posted c e h a m room k = counts_one c (record c { posts = c.posts + 1 }) e h (Posted a m) refl (omega arith) room (omega (arith, k.few_steps)) k
 
 -- steps
-pub items_ran : (c : Counts) (e : Earlier) (h : List Item) (a : ActorId) (n : ℕ) → e.steps + weigh ran_of h + n ≤ most_counted → CountsItems c e h → CountsItems (record c { steps = c.steps + n }) e (h ++ Ran a n ∷ [])
+pub items_ran : (c : Counts) (e : EarlierCounts) (h : List Item) (a : ActorId) (n : ℕ) → e.steps + weigh ran_of h + n ≤ most_counted → CountsItems c e h → CountsItems (record c { steps = c.steps + n }) e (h ++ Ran a n ∷ [])
 items_ran c e h a n room k = counts_one c (record c { steps = c.steps + n }) e h (Ran a n) (omega arith) refl (omega (arith, k.few_posts)) room k

@@ -6,7 +6,7 @@ use Rattle.st_classes.specs.declared.values.ActorId.{ActorId}
 use Rattle.st_classes.specs.declared.edits.Edit.{Edit}
 use Rattle.st_image.specs.Worlds.{World, changed, change_at}
 use Rattle.st_image.specs.ClaimsOut.{claims_of, one_less, trimmed}
-use Rattle.st_image.specs.EarlierCounts.{Earlier}
+use Rattle.st_image.specs.EarlierCounts.{EarlierCounts}
 use Rattle.st_image.specs.Images.{ImageView, world}
 use Rattle.st_image.specs.Scheduling.{IsNextReady, is_free_at, is_ready_at}
 use Rattle.st_image.specs.ActorViews.{ActorsView, IsNextFree, SameOut, Shows, is_free_in}
@@ -59,7 +59,7 @@ counts_same_out count a i j old mid new e f same put h = λ b.
     ap (λ (ns : List ℕ). claims_of ns b) f ∙ claims_trimmed new b ∙ ap (λ (ns : List ℕ). claims_of ns b) put ∙ counts_change count mid a.0 b (inr h) ∙ ap (λ (n : ℕ). cond (b == a.0) (count n) n) (sym was)
 
 -- what callers see of a release
-pub released : (base : World) (names : List (List ℕ)) (h : List Item) (s : Settings) (earlier : Earlier) (n : ℕ) (old new : List ℕ) (rows : List (List Tally)) (a : ActorId) → new ≡ change_at one_less a.0 old → IsReleased (seen base names h s (standing_of earlier n old rows)) a (seen base names h s (standing_of earlier n new rows))
+pub released : (base : World) (names : List (List ℕ)) (h : List Item) (s : Settings) (earlier : EarlierCounts) (n : ℕ) (old new : List ℕ) (rows : List (List Tally)) (a : ActorId) → new ≡ change_at one_less a.0 old → IsReleased (seen base names h s (standing_of earlier n old rows)) a (seen base names h s (standing_of earlier n new rows))
 released base names h s earlier n old new rows a put = record {
   image = refl;
   counted = counts_out one_less a (seen base names h s (standing_of earlier n old rows)) (seen base names h s (standing_of earlier n new rows)) old new refl refl put (inr refl);

@@ -10,7 +10,7 @@ use Rattle.st_image.specs.Replay.{replay}
 use Rattle.st_image.specs.Images.{ImageView, constants, world}
 use Rattle.st_image.specs.WorldInvariant.{IsLawful}
 use Rattle.st_image.specs.Changes.{change_count, changes_in}
-use Rattle.st_image.specs.EarlierCounts.{Earlier}
+use Rattle.st_image.specs.EarlierCounts.{EarlierCounts}
 use Rattle.st_image.specs.Commits.{BodiesLast, HasCheckedOut, KnowsBody, body_at, changed_at, new_claim}
 use Rattle.st_image.proofs.BodyChanges.{body_stays, changes_append}
 use Rattle.st_image.proofs.Replays.{replay_append}
@@ -42,7 +42,7 @@ knows_as i c d b k =
 -- what was counted before stays, and the history goes on
 pub grown_by : (i j : ImageView) (items : List Item) (a : ℕ) → j.standing.earlier ≡ i.standing.earlier → j.history ≡ i.history ++ items → changed_at j a ≡ changed_at i a + changes_in items a
 grown_by i j items a earlier more =
-    let was : change_count j.standing.earlier.changes a ≡ change_count i.standing.earlier.changes a = ap (λ (e : Earlier). change_count e.changes a) earlier in
+    let was : change_count j.standing.earlier.changes a ≡ change_count i.standing.earlier.changes a = ap (λ (e : EarlierCounts). change_count e.changes a) earlier in
     let grown : changes_in j.history a ≡ changes_in i.history a + changes_in items a = ap (λ (h : List Item). changes_in h a) more ∙ changes_append i.history items a in
     omega (arith, was, grown)
 

@@ -9,7 +9,7 @@ use Rattle.st_image.specs.declared.counts.Counts.{Counts}
 use Rattle.st_image.specs.declared.history.Item.{Item}
 use Rattle.st_image.specs.declared.settings.Settings.{Settings}
 use Rattle.st_image.specs.Changes.{change_count}
-use Rattle.st_image.specs.EarlierCounts.{Earlier}
+use Rattle.st_image.specs.EarlierCounts.{EarlierCounts}
 use Rattle.st_image.specs.Failures.{KeptFailures}
 use Rattle.st_image.specs.Worlds.{Constants, World}
 use Rattle.st_image.specs.ActorViews.{ActorView}
@@ -25,7 +25,7 @@ sends_same c base h rows rows' same k = record {
 }
 
 -- more room changes nothing that holds of an image
-pub with_room : (base : World) (names : List (List ℕ)) (edits : List Edit) (actors : List ActorView) (h : List Item) (made : ℕ) (s : Settings) (clients : List ℕ) (rows rows' : List (List Tally)) (changes changes' : List ℕ) (counted : Counts) (earlier : Earlier) (failed : KeptFailures)
+pub with_room : (base : World) (names : List (List ℕ)) (edits : List Edit) (actors : List ActorView) (h : List Item) (made : ℕ) (s : Settings) (clients : List ℕ) (rows rows' : List (List Tally)) (changes changes' : List ℕ) (counted : Counts) (earlier : EarlierCounts) (failed : KeptFailures)
     → HoldsImage base names edits actors h made s clients rows changes counted earlier failed → ((a : ℕ) → change_count changes' a ≡ change_count changes a) → SameTallies rows rows'
     → HoldsImage base names edits actors h made s clients rows' changes' counted earlier failed
 with_room base names edits actors h made s clients rows rows' changes changes' counted earlier failed v same tallies = record {

@@ -16,7 +16,7 @@ use Rattle.st_image.specs.Replay.{with_accepted, with_last}
 use Rattle.st_image.specs.PostRules.{IsClients, post_rules}
 use Rattle.st_turn.specs.declared.tally.Tally.{Tally}
 use Rattle.st_image.specs.ClaimsOut.{trimmed}
-use Rattle.st_image.specs.EarlierCounts.{Earlier}
+use Rattle.st_image.specs.EarlierCounts.{EarlierCounts}
 use Rattle.st_image.specs.Counts.{most_counted}
 use Rattle.st_image.specs.Images.{ImageView, Standing, counts_of, world, world_of, image_post_rules, no_room, too_many_posts, accepted_by}
 use Rattle.st_image.specs.ActorViews.{ActorView, actor_view, view_with_message}
@@ -32,7 +32,7 @@ abbrev pub seen : World → List (List ℕ) → List Item → Settings → Stand
 seen base names h s beside = record { base = base; names = names; history = h; capacity = s.capacity; most_items = s.history; standing = beside }
 
 -- what an image keeps beside its world, by its fields
-abbrev pub standing_of : Earlier → ℕ → List ℕ → List (List Tally) → Standing
+abbrev pub standing_of : EarlierCounts → ℕ → List ℕ → List (List Tally) → Standing
 standing_of earlier next_from out tallies = record { next_from = next_from; claims_out = trimmed out; tallies = tallies; earlier = earlier }
 
 -- a post that isn't refused

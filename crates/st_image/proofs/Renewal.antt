@@ -21,7 +21,7 @@ use Rattle.st_image.specs.ActorViews.{ActorView, AreActors, Shows, actor_view, i
 use Rattle.st_image.specs.ClaimsOut.{claims_of}
 use Rattle.st_image.specs.ActResults.{constants_of}
 use Rattle.st_image.specs.Changes.{change_count}
-use Rattle.st_image.specs.EarlierCounts.{Earlier}
+use Rattle.st_image.specs.EarlierCounts.{EarlierCounts}
 use Rattle.st_image.specs.ImageInvariant.{FitsBase, IsImage, turns_open}
 use Rattle.st_image.proofs.Bases.{base_turns}
 use Rattle.st_image.proofs.GrowingEdits.{replay_edits}
@@ -128,7 +128,7 @@ pub order_anew : (w : World) → InSendingOrder (world_of_parts w.edits (map par
 order_anew w order = subst InSendingOrder (sym (rebase_is w)) order
 
 -- what was counted fits the base
-pub fits_anew : (w : World) (e : Earlier) (steps : ℕ) (changed : ℕ → ℕ) → e.edits ≤ length w.edits → e.steps ≡ steps → ((a : ℕ) → change_count e.changes a ≡ changed a) → ((a : ℕ) → changed a ≤ 2 * steps + turns_open (slice_get w.actors a)) → FitsBase e (rebase w)
+pub fits_anew : (w : World) (e : EarlierCounts) (steps : ℕ) (changed : ℕ → ℕ) → e.edits ≤ length w.edits → e.steps ≡ steps → ((a : ℕ) → change_count e.changes a ≡ changed a) → ((a : ℕ) → changed a ≤ 2 * steps + turns_open (slice_get w.actors a)) → FitsBase e (rebase w)
 fits_anew w e steps changed few same counts bounds = record {
   edits = few;
   changes = λ a. omega (arith, same, counts a, bounds a, open_anew w a);

@@ -3,7 +3,7 @@ use Rattle.std.specs.Prelude.{◌≡◌, ℕ, ◌+◌, ◌-◌, ◌^◌, ◌≤�
 use Rattle.st_image.specs.declared.history.Item.{Item}
 use Rattle.st_image.specs.declared.history.Item.TheVariants.{Edited, Created, Posted, Closed, Begun, Ran}
 use Rattle.st_image.specs.declared.counts.Counts.{Counts}
-use Rattle.st_image.specs.EarlierCounts.{Earlier}
+use Rattle.st_image.specs.EarlierCounts.{EarlierCounts}
 
 -- an item's posts
 abbrev pub posts_of : Item → ℕ
@@ -51,7 +51,7 @@ pub record CanBeCounted (c : Counts) : Type 0 where
   pub steps : c.steps ≤ most_counted
 
 -- these are the counts of a history; with what was counted before, they are no more than an image counts
-pub record CountsItems (c : Counts) (e : Earlier) (history : List Item) : Type 0 where
+pub record CountsItems (c : Counts) (e : EarlierCounts) (history : List Item) : Type 0 where
   pub counts : c ≡ counts_in history
   pub few_posts : e.posts + weigh posts_of history ≤ most_counted
   pub few_steps : e.steps + weigh ran_of history ≤ most_counted

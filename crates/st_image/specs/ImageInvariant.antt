@@ -10,7 +10,7 @@ use Rattle.st_turn.specs.BodyFits.{Referents, Fits}
 use Rattle.st_turn.specs.Idle.{is_idle}
 use Rattle.st_image.specs.declared.history.Item.{Item}
 use Rattle.st_image.specs.declared.settings.Settings.{Settings}
-use Rattle.st_image.specs.EarlierCounts.{Earlier}
+use Rattle.st_image.specs.EarlierCounts.{EarlierCounts}
 use Rattle.st_image.specs.Failures.{KeptFailures, failures_kept, failures_through}
 use Rattle.st_image.specs.Worlds.{World, WorldActor}
 use Rattle.st_image.specs.Replay.{replay}
@@ -50,7 +50,7 @@ turns_open (Some b) = if is_idle b.body.phase then 0 else 1
 
 -- What was counted before a base fits it: no more edits than its table has, and for each body at most two changes for each step that
 -- was taken, and one more if its actor is in a turn. Each turn begins once and takes a step before it ends.
-pub record FitsBase (e : Earlier) (base : World) : Type 0 where
+pub record FitsBase (e : EarlierCounts) (base : World) : Type 0 where
   pub edits : e.edits ≤ length base.edits
   pub changes : (a : ℕ) → change_count e.changes a ≤ 2 * e.steps + turns_open (slice_get base.actors a)
 
@@ -59,7 +59,7 @@ pub record FitsBase (e : Earlier) (base : World) : Type 0 where
 -- compiled from their sources. What was counted before the base fits it. The newest failures of the history are kept, and counted.
 pub record HoldsImage (base : World) (names : List (List ℕ)) (edits : List Edit) (actors : List ActorView)
     (history : List Item) (made : ℕ) (s : Settings) (clients : List ℕ) (tallies : List (List Tally))
-    (changes : List ℕ) (counted : Counts) (earlier : Earlier) (failed : KeptFailures) : Type 0 where
+    (changes : List ℕ) (counted : Counts) (earlier : EarlierCounts) (failed : KeptFailures) : Type 0 where
   pub image : IsImage base names edits actors history made s
   pub numbers_of_clients : KeepsClients clients base.clients history
   pub sends : CountsSends (constants_of names s.capacity) base history tallies

@@ -16,7 +16,7 @@ use Rattle.st_turn.specs.declared.tally.Tally.{Tally}
 use Rattle.st_image.specs.Worlds.{Constants, World, WorldActor, start, is_capacity}
 use Rattle.st_image.specs.PostRules.{post_rules}
 use Rattle.st_image.specs.Replay.{replay}
-use Rattle.st_image.specs.EarlierCounts.{Earlier, nothing_earlier}
+use Rattle.st_image.specs.EarlierCounts.{EarlierCounts, nothing_earlier}
 use Rattle.st_image.specs.Counts.{edits_of, most_counted, posts_of, ran_of, weigh}
 use Rattle.st_image.specs.declared.counts.Counts.{Counts}
 
@@ -26,7 +26,7 @@ pub record Standing : Type 0 where
   pub next_from : ℕ
   pub claims_out : List ℕ
   pub tallies : List (List Tally)
-  pub earlier : Earlier
+  pub earlier : EarlierCounts
 
 -- an image: the world that it began with, its names, its history, the capacity of new actors' mailboxes, the most items of the history,
 -- and what it keeps beside its world

@@ -309,6 +309,7 @@ fn take_outer<M: Mailbox>(
 
 /// Steps of an actor's own have led to a body, and the image's step is taken if it comes next, as the caller knows. The answer is
 /// whether it was. If memory runs out, nothing changes and the body is given back. Otherwise the body before is left.
+#[inline(always)]
 pub(crate) fn put_steps<M: Mailbox>(
     alloc: Global,
     names: &Names,

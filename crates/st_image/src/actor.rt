@@ -218,6 +218,7 @@ impl<M: Mailbox> Actor<M> {
     }
 
     /// A copy of the body: its next copy, if there is one.
+    #[inline(always)]
     fn take_copy(&mut self, alloc: Global, recycled: &mut Recycled) -> Result<Body, AllocError>
         ensures same { self.new ≡ self.old }
         ensures copy { IfOk result (λ b. b ≡ self.old.body) }
@@ -233,6 +234,7 @@ impl<M: Mailbox> Actor<M> {
 
     /// The body that a checkout hands out: that of an idle actor has begun the first pending message, where one is pending. It takes
     /// the memory of a body that was left, if that fits.
+    #[inline(always)]
     pub(crate) fn body_to_check_out(
         &mut self,
         alloc: Global,
@@ -262,6 +264,7 @@ impl<M: Mailbox> Actor<M> {
 
     /// The actor has this body after steps of its own, and the copy of it, if there is one; the body before is given out. A turn that
     /// ended adds its result. For want of memory nothing changes, and the body is given back.
+    #[inline(always)]
     pub(crate) fn put_body(
         &mut self,
         body: Body,

@@ -175,6 +175,7 @@ impl<M: Mailbox> Actors<M> {
     }
 
     /// The body that a checkout of an actor hands out.
+    #[inline(always)]
     pub(crate) fn body_to_check_out(
         &mut self,
         alloc: Global,
@@ -221,6 +222,7 @@ impl<M: Mailbox> Actors<M> {
 
     /// An actor has this body after steps of its own, and the one before is given out. A turn that ended adds its result. For want
     /// of memory nothing changes, and the body is given back.
+    #[inline(always)]
     pub(crate) fn put_body(
         &mut self,
         actor: ActorId,

@@ -11,27 +11,27 @@ use std::marker::Model;
 
 /// What was counted in an image before the world that it began with.
 #[derive(Drop)]
-pub(crate) struct Earlier {
+pub(crate) struct EarlierCounts {
     /// How often each actor's body was changed, by the actors' numbers.
     changes: Vec<u64>,
     edits: u32,
     counts: Counts,
 }
 
-impl Model for Earlier {
-    ghost use Rattle.st_image.specs.EarlierCounts.{Earlier as EarlierOf};
+impl Model for EarlierCounts {
+    ghost use Rattle.st_image.specs.EarlierCounts.{EarlierCounts as EarlierOf};
 
     ghost Value = { EarlierOf };
 
     ghost view = { λ e. record { changes = e.changes.items; edits = e.edits; posts = e.counts.posts; steps = e.counts.steps } };
 }
 
-impl Earlier {
+impl EarlierCounts {
     /// This many posts and steps were counted, and nothing else.
-    pub(crate) fn counted(alloc: Global, counts: Counts) -> Earlier
+    pub(crate) fn counted(alloc: Global, counts: Counts) -> EarlierCounts
         ensures { result ≡ counted_earlier counts }
     {
-        Earlier {
+        EarlierCounts {
             changes: Vec::new(alloc),
             edits: 0,
             counts,
@@ -67,7 +67,7 @@ impl Earlier {
         changes: &Changes,
         edits: u32,
         counts: Counts,
-    ) -> Result<Earlier, AllocError>
+    ) -> Result<EarlierCounts, AllocError>
         requires { (a : ℕ) → change_count self.now.changes a + change_count changes.now a < 2 ^ 64 }
         ensures changes { IfOk result (λ e. (a : ℕ) → change_count e.changes a ≡ change_count self.now.changes a + change_count changes.now a) }
         ensures edits { IfOk result (λ e. e.edits ≡ edits) }
@@ -79,7 +79,7 @@ impl Earlier {
         for actor in 0..actors {
             sums.push(self.changed_at(actor) + u64::from(changes.at(actor)))?;
         }
-        Ok(Earlier {
+        Ok(EarlierCounts {
             changes: sums,
             edits,
             counts,

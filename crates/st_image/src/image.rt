@@ -27,7 +27,7 @@ use crate::base::Base;
 use crate::changes::Changes;
 use crate::clients::Clients;
 use crate::counts::Counts;
-use crate::earlier_counts::Earlier;
+use crate::earlier_counts::EarlierCounts;
 use crate::failures::Failures;
 use crate::history::Item;
 use crate::settings::Settings;
@@ -119,7 +119,7 @@ pub struct Image<M: Mailbox> {
     settings: Settings,
     tallies: Tallies,
     changes: Changes,
-    earlier: Earlier,
+    earlier: EarlierCounts,
     /// The newest turns that ended with a fault.
     failures: Failures,
     // Each quantum writes what follows, so it lies together: a processor that holds a lock on the image waits for fewer lines of memory.
@@ -185,7 +185,7 @@ impl<M: Mailbox> Image<M> {
             tallies: Tallies::new(alloc),
             changes: Changes::new(alloc),
             counts: Counts { posts: 0, steps: 0 },
-            earlier: Earlier::counted(alloc, Counts { posts: 0, steps: 0 }),
+            earlier: EarlierCounts::counted(alloc, Counts { posts: 0, steps: 0 }),
             failures,
         })
     }

@@ -8,7 +8,7 @@ use Rattle.st_image.specs.declared.history.Item.TheVariants.{Edited, Created, Po
 use Rattle.st_image.specs.Checkpoints.{BeginsAnew}
 use Rattle.st_image.specs.Commits.{out_at}
 use Rattle.st_image.specs.Counts.{posts_of, ran_of, weigh}
-use Rattle.st_image.specs.EarlierCounts.{Earlier}
+use Rattle.st_image.specs.EarlierCounts.{EarlierCounts}
 use Rattle.st_image.specs.Images.{ImageView, counts_of, world}
 use Rattle.st_image.specs.Scheduling.{is_free_at, is_ready_at}
 use Rattle.st_image.specs.Worlds.{World}
@@ -59,8 +59,8 @@ does_one i e j d =
     let longer : j.history ≡ i.history ++ x ∷ [] = ap (λ (k : ImageView). k.history) d.redone.image in
     let earlier = d.redone.beside.earlier in
     record {
-      posts = one_more_item posts_of x i.history j.history i.standing.earlier.posts j.standing.earlier.posts (posts_told e) longer (ap (λ (s : Earlier). s.posts) earlier) (item_posts x ∙ ap posts_told d.telling);
-      steps = one_more_item ran_of x i.history j.history i.standing.earlier.steps j.standing.earlier.steps (steps_told e) longer (ap (λ (s : Earlier). s.steps) earlier) (item_steps x ∙ ap steps_told d.telling);
+      posts = one_more_item posts_of x i.history j.history i.standing.earlier.posts j.standing.earlier.posts (posts_told e) longer (ap (λ (s : EarlierCounts). s.posts) earlier) (item_posts x ∙ ap posts_told d.telling);
+      steps = one_more_item ran_of x i.history j.history i.standing.earlier.steps j.standing.earlier.steps (steps_told e) longer (ap (λ (s : EarlierCounts). s.steps) earlier) (item_steps x ∙ ap steps_told d.telling);
       out = d.redone.beside.out;
     }
 

@@ -34,8 +34,8 @@ const PAUSES: usize = 4;
 
 const LONG_PAUSES: usize = 16;
 
-/// How often a caller looks whether a turn has ended before it sleeps for that. Between two looks other threads may run, and the caller
-/// waits at a long interval for the signal that one has ended. Most turns end sooner than a thread that sleeps would be woken.
+/// How often a caller waits, for a long interval, for the signal that a turn has ended, before it sleeps for that. Between two intervals
+/// other threads may run. Most turns end sooner than a thread that sleeps would be woken.
 const LOOKS_FOR_END: u32 = 32;
 
 /// How often a worker that found nothing looks, at long intervals, whether there is something now before it sleeps; a signal says that
@@ -145,13 +145,17 @@ impl<K: Naming, M: Mailbox> Shared<K, M> {
         first.waiting.begin_seek();
         drop(first);
         for _ in 0..LOOKS_FOR_END {
-            yield_now();
             self.ends.pause_past(ends, LONG_PAUSES);
-            ends = self.ends.count();
-            let mut pool = self.enter(rt);
-            if condition.holds(&pool) {
-                pool.waiting.end_seek();
-                return Some(pool);
+            let told = self.ends.count();
+            if told == ends {
+                yield_now();
+            } else {
+                ends = told;
+                let mut pool = self.enter(rt);
+                if condition.holds(&pool) {
+                    pool.waiting.end_seek();
+                    return Some(pool);
+                }
             }
         }
         self.enter(rt).waiting.end_seek();

@@ -8,6 +8,9 @@ use std::time::{Clock, Duration};
 
 pub const TURNS: u32 = 20_000;
 
+/// How many claims a worker has at most.
+const MOST_CLAIMS: u64 = 4;
+
 /// The turns for which one of two workers waits for the other's first claim, which is there at once.
 const MEETING: u32 = 100_000;
 
@@ -123,6 +126,8 @@ pub struct Door<'a, R: Clock> {
     pub marks: &'a Marks,
     pub number: u32,
     pub way: Way,
+    /// How many claims the worker has that were not committed yet, but for those whose quanta have not begun.
+    pub claims: u64,
 }
 
 impl<'a, R: Clock> Door<'a, R> {
@@ -156,12 +161,17 @@ impl<'a, R: Clock> Gate for Door<'a, R> {
             &self.marks.second
         };
         let count = mine.fetch_add(1, Ordering::SeqCst).wrapping_add(1);
+        self.claims = self.claims.wrapping_add(1);
+        if self.claims > MOST_CLAIMS {
+            self.marks.note_wrong();
+        }
         if worker != self.number || claim.steps() != 0 || !self.opens(count, of_both) {
             self.marks.note_wrong();
         }
     }
 
     fn after(&mut self, worker: u32) {
+        self.claims = self.claims.wrapping_sub(1);
         self.marks.ended.fetch_add(1, Ordering::SeqCst);
         let is_let_go = self.way != Way::Held || reaches(self.rt, &self.marks.told, 1);
         if worker != self.number || !is_let_go {

@@ -51,6 +51,7 @@ fn work<K: Naming, R: Wait + Clock>(
         marks: &stage.marks,
         number,
         way: stage.scene.way(),
+        claims: 0,
     };
     let quantum = stage.scene.quantum();
     worker_loop(

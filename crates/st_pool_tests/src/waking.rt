@@ -90,16 +90,32 @@ fn hurry<C: Calls, R: Wait>(rt: &R, caller: &mut C, actor: ActorId, turn: u64) {
 }
 
 /// Turns of 200,862 steps, whose last quantum is short, beside turns twice as long. A worker that finds the lock held has claims of
-/// both, and goes on with the one when a turn of the other ends.
+/// both, and goes on with the one when a turn of the other ends. At first five more actors have a long turn each.
 pub fn hurried<C: Calls, R: Wait + Clock>(rt: &R, alloc: Global, caller: &mut C) -> bool {
     let source = "count: n | i | i := 0. [i < n] whileTrue: [i := i + 1]. ^i";
     if !make_actor(rt, alloc, caller, source) || caller.create(rt, alloc, A) != Ok(SECOND) {
         return false;
     }
+    for actor in 2..7 {
+        let is_posted = caller.create(rt, alloc, A) == Ok(ActorId(actor))
+            && post_with(
+                rt,
+                alloc,
+                caller,
+                actor.into(),
+                ActorId(actor),
+                "count:",
+                Value::Int(40170),
+            ) == Ok(1);
+        if !is_posted {
+            return false;
+        }
+    }
     for turn in 1..9 {
         let (first, second) = (Value::Int(20085), Value::Int(40170));
-        let are_posted = post_with(rt, alloc, caller, turn * 2, FIRST, "count:", first) == Ok(turn)
-            && post_with(rt, alloc, caller, turn * 2 + 1, SECOND, "count:", second) == Ok(turn);
+        let are_posted = post_with(rt, alloc, caller, turn * 2 + 6, FIRST, "count:", first)
+            == Ok(turn)
+            && post_with(rt, alloc, caller, turn * 2 + 7, SECOND, "count:", second) == Ok(turn);
         if !are_posted {
             return false;
         }

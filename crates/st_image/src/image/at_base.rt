@@ -5,7 +5,7 @@ use crate::base::Base;
 use crate::changes::Changes;
 use crate::clients::Clients;
 use crate::counts::Counts;
-use crate::earlier_counts::Earlier;
+use crate::earlier_counts::EarlierCounts;
 use crate::failures::Failures;
 use crate::image::Image;
 use crate::settings::Settings;
@@ -99,7 +99,7 @@ impl<M: Mailbox> Image<M> {
             tallies: Tallies::new(alloc),
             changes: Changes::new(alloc),
             counts: Counts { posts: 0, steps: 0 },
-            earlier: Earlier::counted(alloc, counts),
+            earlier: EarlierCounts::counted(alloc, counts),
             failures,
         })
     }

@@ -14,7 +14,7 @@ use st_turn::claim::Claim;
 use std::alloc::{AllocError, Global};
 
 /// A claim of no steps, in the memory of one that was spent, if there is one.
-#[inline]
+#[inline(always)]
 fn claim_in(
     alloc: Global,
     actor: ActorId,

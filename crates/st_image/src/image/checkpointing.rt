@@ -2,7 +2,7 @@
 use crate::base::Base;
 use crate::changes::Changes;
 use crate::counts::Counts;
-use crate::earlier_counts::Earlier;
+use crate::earlier_counts::EarlierCounts;
 use crate::failures::Failures;
 use crate::history::Item;
 use crate::image::Image;
@@ -21,7 +21,7 @@ impl<M: Mailbox> Image<M> {
     ghost use Rattle.st_image.specs.Parts.{rebase};
 
     /// All that was counted until now.
-    fn counted_so_far(&self, alloc: Global) -> Result<Earlier, AllocError>
+    fn counted_so_far(&self, alloc: Global) -> Result<EarlierCounts, AllocError>
         ensures changes { IfOk result (λ e. (a : ℕ) → change_count e.changes a ≡ changed_at self.now a) }
         ensures edits { IfOk result (λ e. e.edits ≡ edits_made self.now) }
         ensures posts { IfOk result (λ e. e.posts ≡ (counts_of self.now).posts) }
@@ -47,7 +47,7 @@ impl<M: Mailbox> Image<M> {
         Ok(base)
     }
 
-    /// The present world becomes the one that the image begins with, and the history is emptied. Earlier results and the statistics are
+    /// The present world becomes the one that the image begins with, and the history is emptied. EarlierCounts results and the statistics are
     /// forgotten. Pending messages are turns 1 and on, and the turn that an actor is in, or has ended last, is turn 0. These stay: senders'
     /// numbers, the edits, the count of edits of the run, the place from which the next ready actor is looked for, the counts of posts and
     /// steps, and the claims that are out.

@@ -3,7 +3,7 @@ use Rattle.st_image.specs.Worlds.{World}
 use Rattle.st_image.specs.Counts.{ran_of, weigh}
 use Rattle.st_image.specs.declared.counts.Counts.{Counts}
 use Rattle.st_image.specs.Commits.{changed_at}
-use Rattle.st_image.specs.EarlierCounts.{Earlier}
+use Rattle.st_image.specs.EarlierCounts.{EarlierCounts}
 use Rattle.st_image.specs.Images.{ImageView, counts_of, world_of}
 use Rattle.st_image.specs.Changes.{change_count, changes_in}
 use Rattle.st_image.specs.ActResults.{constants_of}
@@ -24,10 +24,10 @@ pub returns-clause-changes : goal.returns-clause-changes
 returns-clause-changes g c =
     let i = c.self.inside in
     let now : (a : ℕ) → change_count i.earlier.changes a + change_count i.changes a ≡ changed_at c.args.self.now a = λ a. ap (λ (n : ℕ). change_count i.earlier.changes a + n) (c.self.invariant.counts a) ∙ ap (λ (v : ImageView). changed_at v a) c.self.view_is in
-    ok_by c.with.result (λ (e : Earlier). (a : ℕ) → change_count e.changes a ≡ change_count i.earlier.changes a + change_count i.changes a) (λ (e : Earlier). (a : ℕ) → change_count e.changes a ≡ changed_at c.args.self.now a) (λ e h a. h a ∙ now a) c.with.ensures.changes
+    ok_by c.with.result (λ (e : EarlierCounts). (a : ℕ) → change_count e.changes a ≡ change_count i.earlier.changes a + change_count i.changes a) (λ (e : EarlierCounts). (a : ℕ) → change_count e.changes a ≡ changed_at c.args.self.now a) (λ e h a. h a ∙ now a) c.with.ensures.changes
 
 pub returns-clause-posts : goal.returns-clause-posts
-returns-clause-posts g c = ok_by c.with.result (λ (e : Earlier). e.posts ≡ c.counted-counts.result.posts) (λ (e : Earlier). e.posts ≡ (counts_of c.args.self.now).posts) (λ e h. h ∙ ap (λ (x : Counts). x.posts) c.counted-counts.ensures.counts) c.with.ensures.posts
+returns-clause-posts g c = ok_by c.with.result (λ (e : EarlierCounts). e.posts ≡ c.counted-counts.result.posts) (λ (e : EarlierCounts). e.posts ≡ (counts_of c.args.self.now).posts) (λ e h. h ∙ ap (λ (x : Counts). x.posts) c.counted-counts.ensures.counts) c.with.ensures.posts
 
 pub returns-clause-steps : goal.returns-clause-steps
-returns-clause-steps g c = ok_by c.with.result (λ (e : Earlier). e.steps ≡ c.counted-counts.result.steps) (λ (e : Earlier). e.steps ≡ (counts_of c.args.self.now).steps) (λ e h. h ∙ ap (λ (x : Counts). x.steps) c.counted-counts.ensures.counts) c.with.ensures.steps
+returns-clause-steps g c = ok_by c.with.result (λ (e : EarlierCounts). e.steps ≡ c.counted-counts.result.steps) (λ (e : EarlierCounts). e.steps ≡ (counts_of c.args.self.now).steps) (λ e h. h ∙ ap (λ (x : Counts). x.steps) c.counted-counts.ensures.counts) c.with.ensures.steps

@@ -1,6 +1,6 @@
 use Rattle.std.proofs.Common.{arith, ℕ}
 use Rattle.st_image.proofs.Sums.{all_sums}
-use Rattle.st_image.proofs.earlier_counts.Earlier.with.Goals as goal
+use Rattle.st_image.proofs.earlier_counts.EarlierCounts.with.Goals as goal
 
 pub returns-clause-changes : goal.returns-clause-changes
 returns-clause-changes c =

@@ -2,7 +2,8 @@
 //!
 //! That is one, as long as the worker finds the lock free at the end of its quantum. Where others hold it, the worker takes a claim
 //! more in its own hold. So each hold commits and checks out several: fewer holds have to be waited for, and what is read in them was
-//! less often written last by another processor. While another worker sleeps, looks or rests, the worker goes back to one.
+//! less often written last by another processor. If a quantum is short, or while another worker sleeps or rests, the worker goes back
+//! to one.
 ghost use Rattle.st_pool.specs.Holds.{IsHold, of_worker};
 
 use crate::crowding::is_short;
@@ -228,7 +229,7 @@ impl<K: Naming> ClaimSlots<K> {
 
     /// Commits all claims, and looks for the next ones, all in one hold. `rests` says that the worker is to take none. Otherwise one
     /// slot at least goes on if an actor is ready behind the last commit, unless memory or the history ran out or the workers are to end,
-    /// and all do if no worker is idle.
+    /// and all do if `are_several` says so and no worker is idle.
     #[tactic(auto, using(crate::proofs::Holding::hold_then))]
     pub(crate) fn commit_and_claim<M: Mailbox>(
         &mut self,
@@ -236,6 +237,7 @@ impl<K: Naming> ClaimSlots<K> {
         pool: &mut PoolState<K, M>,
         share: &mut WorkerShare<K>,
         rests: bool,
+        are_several: bool,
     ) -> HoldOutcome
         ensures { IsHold of_worker pool.old pool.new }
     {
@@ -247,7 +249,7 @@ impl<K: Naming> ClaimSlots<K> {
         outcome.add(self.first.commit_and_claim(alloc, pool, share, !rests));
         if self.are_several {
             for claim_slot in &mut self.others {
-                let goes_on = !outcome.goes_on || !pool.has_idle();
+                let goes_on = !outcome.goes_on || are_several && !pool.has_idle();
                 outcome.add(claim_slot.commit_and_claim(alloc, pool, share, goes_on && !rests));
             }
         }

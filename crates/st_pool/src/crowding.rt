@@ -1,18 +1,16 @@
 //! When a worker is in the way of others: its quanta are short, and it finds the lock held each time; or it has taken many long ones
 //! while they may want its processor.
 //!
-//! A short quantum takes no longer than the hold that ends it. Then more workers bring little: each hold takes longer, because what it
-//! reads was written by another processor. Where a hold ends several quanta, two or three workers still bring something.
+//! A short quantum takes no longer than the hold that ends it. Then more workers bring nothing: each hold takes longer, because what
+//! it reads was written by another processor.
 
 ghost use Rattle.std.specs.Prelude.{◌<◌, ◌↔◌, IsTrue};
-
-use crate::claim_slots::Ran;
 
 /// A quantum of fewer steps than this is short.
 const SHORT: u32 = 256;
 
 /// What a short quantum that finds the lock held adds to the count. One that finds it free takes one away, and a quantum that is not
-/// short sets the count to 0. Several that end together add one, or take this away.
+/// short sets the count to 0.
 const MET: u32 = 2;
 
 /// The count at which a worker is to rest.
@@ -48,16 +46,15 @@ impl Crowding {
         }
     }
 
-    /// Notes the quanta that ended together, and whether the lock was free at their end.
-    pub(crate) fn note(&mut self, ran: Ran, was_free: bool) {
-        self.long = self.long.saturating_add(ran.long);
-        let (met, free) = if ran.count > 1 { (1, MET) } else { (MET, 1) };
-        self.met = if !ran.has_short() {
+    /// Notes the quanta that ended together: how many were not short, whether one is short, and whether the lock was free at their end.
+    pub(crate) fn note(&mut self, long: u32, is_short: bool, was_free: bool) {
+        self.long = self.long.saturating_add(long);
+        self.met = if !is_short {
             0
         } else if was_free {
-            self.met.saturating_sub(free)
+            self.met.saturating_sub(1)
         } else {
-            self.met.saturating_add(met)
+            self.met.saturating_add(MET)
         };
     }
 

@@ -101,7 +101,7 @@ fn next_work<K: Naming, M: Mailbox, R: Wait>(
 }
 
 /// What a worker does in its hold behind its quanta: it commits its claims, and takes others. `rests` says that it is to take none.
-/// Where the lock was not free, it takes one more than it had, if all were committed.
+/// Where the lock was not free, it takes one more than it had, if its quanta were long and all were committed.
 #[tactic(auto, using(crate::proofs::Holding::hold_then))]
 fn commit_and_claim_all<K: Naming, M: Mailbox>(
     alloc: Global,
@@ -114,9 +114,10 @@ fn commit_and_claim_all<K: Naming, M: Mailbox>(
 ) -> HoldOutcome
     ensures { IsHold of_worker pool.old pool.new }
 {
-    let outcome = claim_slots.commit_and_claim(alloc, pool, share, rests);
+    let are_long = !ran.has_short();
+    let outcome = claim_slots.commit_and_claim(alloc, pool, share, rests, are_long);
     let is_well = outcome.committed == ran.count && !ran.is_starved;
-    if outcome.goes_on && is_well && !was_free && !pool.has_idle() {
+    if outcome.goes_on && is_well && are_long && !was_free && !pool.has_idle() {
         claim_slots.take_more(alloc, pool, share);
     }
     pool.note_want(ran.is_starved);
@@ -137,7 +138,7 @@ fn commit_and_claim<K: Naming, M: Mailbox, R: Wait>(
 ) -> Work<()> {
     let at_once = shared.pool.try_lock();
     let was_free = at_once.is_some();
-    crowding.note(ran, was_free);
+    crowding.note(ran.long, ran.has_short(), was_free);
     let mut pool = match at_once {
         Some(pool) => pool,
         None => shared.enter(rt),
@@ -245,9 +246,9 @@ fn take_quanta_until_stop<G: Guard, K: Naming, M: Mailbox, T: Gate, R: Wait>(
 /// full, any call that is made of the image, refused ones too. `outcome`, `stats` and `look` wake nobody. Before it sleeps it looks some
 /// times, if no other worker does.
 ///
-/// A worker that finds the lock held takes up to four claims at a time, lets one after the other take its quantum, and commits them in
-/// one hold. One whose quanta are short and that finds it held too often all the same rests while another worker is awake, although
-/// actors are ready.
+/// A worker whose quanta are short and that often finds the lock held rests while another worker is awake, although actors are ready.
+/// One whose quanta are long and that finds it held takes up to four claims at a time, lets one after the other take its quantum, and
+/// commits them in one hold.
 pub fn worker_loop<G: Guard, K: Naming, M: Mailbox, T: Gate, R: Wait>(
     rt: &R,
     alloc: Global,

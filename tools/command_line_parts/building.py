@@ -23,7 +23,7 @@ crate=$(basename "$PWD")
 echo "begins $crate $$ $*" >>"$LOG"
 [ "$1" != try ] || exec "$PROGRAM" "${@:3}"
 echo "so far: 1 of 2"
-[ "$crate" != "$FAILS" ] || { echo "error: no proof"; exit 1; }
+[ "$crate" != "$FAILS" ] || { mkdir -p out/incremental; echo "error: no proof"; exit 1; }
 while [ "$(grep -c ^begins "$LOG")" -lt "$BEGUN" ]; do sleep 0.02; done
 sleep "$PAUSE"
 mkdir -p out/rlib
@@ -144,11 +144,13 @@ def all_have_ended(room):
 
 
 def names_what_failed(program):
-    """A crate that is not proved is named, what was said is shown, and the others are ended; none above it is begun."""
+    """A crate that is not proved is named, what was said is shown, what was checked of it is kept, and the others are ended; none above it is
+    begun."""
     with Room(program) as room:
         out, err, status = room.run("script", FAILS="st_guard", PAUSE="3")
         assert (out, status) == ("", 1), (out, err, status)
         assert "\nerror: no proof\nactorimage: st_guard is not proved; all that was said is in " in err, err
+        assert os.listdir(f"{room.top}/crates/st_guard/out") == ["incremental"], os.listdir(f"{room.top}/crates/st_guard")
         begun = {words[1] for words in room.lines() if words[0] == "begins"}
         assert "st_guard" in begun and not any("st_guard" in below(name) for name in begun - {"st_guard"}), begun
         until(lambda: all_have_ended(room), "what else was being proved goes on")

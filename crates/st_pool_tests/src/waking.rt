@@ -141,7 +141,8 @@ pub fn waking<C: Calls, R: Wait + Clock>(rt: &R, alloc: Global, caller: &mut C) 
 }
 
 /// The first quantum posts to the second actor, and its own turn goes on. Neither of the two claims that follow is let go before the
-/// other is out, so both workers are needed, and the commit must have woken the one that waits.
+/// other is out, so both workers are needed, and the commit must have woken the one that waits. An actor that is made meanwhile has had it
+/// look again since the post.
 pub fn waking_by_commit<C: Calls, R: Wait + Clock>(
     rt: &R,
     alloc: Global,
@@ -153,6 +154,8 @@ pub fn waking_by_commit<C: Calls, R: Wait + Clock>(
         && caller.install(rt, alloc, KID, "tick ^7") == Ok(4)
         && caller.create(rt, alloc, KID) == Ok(SECOND)
         && post_with(rt, alloc, caller, 1, FIRST, "ask:", Value::Actor(SECOND)) == Ok(1)
+        && marks.await_claims(rt, 1)
+        && caller.create(rt, alloc, KID) == Ok(ActorId(2))
         && answers(rt, caller, SECOND, 1, 7)
         && marks.await_ended(rt, 3)
         && marks.claims() == 3
